@@ -1,0 +1,6 @@
+pub mod Prices
+pub mod Sides
+pub mod Bounds
+pub mod Rows
+pub mod Ranks
+pub mod Lots
