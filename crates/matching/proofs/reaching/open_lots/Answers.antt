@@ -1,0 +1,27 @@
+use mathlib.Core.Path.{_≡_, ap, sym, _∙_}
+use mathlib.Core.Bool.{cond}
+use native.Mathlib.Omega.{arith}
+use lib.ListN.{drop}
+use Rattle.std.proofs.shelf.Lists.{drop-all}
+use Rattle.std.proofs.shelf.Tests.{cond-true, cond-false}
+use Rattle.orders.specs.Sides.{other}
+use Rattle.books.specs.Model.{at}
+use Rattle.matching.specs.Reach.{counts, open-lots}
+use Rattle.matching.proofs.Walks.{one-more, no-more, cond-most}
+use Rattle.matching.proofs.reaching.open_lots.Needs as need
+
+pub returns-in-rest : need.returns-in-rest
+returns-in-rest g c =
+    let e = ap (open-lots (c .args .order) (c .args .price)) (no-more (at (other (c .args .order .side)) (g .B·Book .queues (c .args .book .now) .stands)) (c .loop-place .place) (sym (c .opposite-at .ensures) ∙ c .in-rest .is)) in
+    record { small = omega arith; told = omega arith }
+
+pub loop-place-again : need.loop-place-again
+loop-place-again g c =
+    let e = ap (open-lots (c .args .order) (c .args .price)) (one-more (at (other (c .args .order .side)) (g .B·Book .queues (c .args .book .now) .stands)) (c .loop-place .place) (c .in-Some .r) (sym (c .opposite-at .ensures) ∙ c .in-Some .is)) in
+    let k = cond-most (counts (c .args .order) (c .args .price) (c .in-Some .r)) (c .in-Some .r .leaves) 1000000 (omega arith) in
+    (omega arith, omega arith)
+
+pub returns : need.returns
+returns g c =
+    let e = ap (open-lots (c .args .order) (c .args .price)) (drop-all (c .loop-place .place) (at (other (c .args .order .side)) (g .B·Book .queues (c .args .book .now) .stands)) (omega (arith, c .opposite-count-place-end .ensures .told))) in
+    record { small = omega arith; told = omega arith }
