@@ -1,0 +1,4 @@
+pub mod Accounts
+pub mod Quiet
+pub mod Tally
+pub mod Fair
