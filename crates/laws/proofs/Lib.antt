@@ -3,3 +3,5 @@ pub mod Queues
 pub mod Sums
 pub mod Rows
 pub mod Events
+pub mod Tapes
+pub mod Counts
