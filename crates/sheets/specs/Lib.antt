@@ -1,3 +1,6 @@
+pub mod Cells
 pub mod Layout
+pub mod Letters
 pub mod Replies
+pub mod Rows
 pub mod Sheets
