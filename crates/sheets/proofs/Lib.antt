@@ -1,2 +1,4 @@
+mod Apart
 mod Digits
+mod Inside
 mod Walks

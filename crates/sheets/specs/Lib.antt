@@ -1,3 +1,4 @@
+pub mod Alone
 pub mod Cells
 pub mod Layout
 pub mod Letters

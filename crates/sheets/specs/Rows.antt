@@ -1,5 +1,5 @@
 -- What a row says: the form of its letter, cell by cell from the left, or the first refusal.
-use Prim.Native.Nat.{ℕ, _+_}
+use Prim.Native.Nat.{ℕ, _+_, _*_}
 use mathlib.Core.Bool.{cond, _||_, not}
 use mathlib.Core.List.{List, [], _∷_}
 use lib.Dec.{ltb, eqb}
@@ -19,7 +19,7 @@ use Rattle.forms.specs.declared.form.Form.{Form}
 use Rattle.forms.specs.declared.refusal.Refusal.{Refusal}
 use Rattle.forms.specs.declared.refusal.Refusal.the-variants.{UnknownRow, WrongCells, CellMisplaced, Unreadable}
 use Rattle.sheets.specs.Cells.{read-number, read-price, read-type}
-use Rattle.sheets.specs.Layout.{part-at, directory-end, first-misplaced}
+use Rattle.sheets.specs.Layout.{part-at, first-misplaced}
 use Rattle.sheets.specs.Letters.{letter-of, cells-of}
 use Rattle.sheets.specs.declared.directory.Directory.the-variants.{Cells}
 use Rattle.sheets.specs.declared.letter.Letter.{Letter}
@@ -122,18 +122,18 @@ abbrev pub misplaced-cell : Option ℕ → Result (Unit {0}) Refusal
 misplaced-cell None = Ok tt
 misplaced-cell (Some cell) = Err (CellMisplaced cell)
 
--- the count is the letter's, the row is long enough for its pairs, and each of them is placed
-abbrev pub check-cells : Letter → ℕ → List ℕ → Result (Unit {0}) Refusal
-check-cells letter count row =
-    cond (not (eqb count (cells-of letter)) || ltb (length row) (directory-end Cells count))
+-- the count is the letter's, the rest behind it has room for the pairs, and each of them is placed
+abbrev pub check-cells : Letter → ℕ → List ℕ → List ℕ → Result (Unit {0}) Refusal
+check-cells letter count rest row =
+    cond (not (eqb count (cells-of letter)) || ltb (length rest) (2 * count))
     (Err WrongCells) (misplaced-cell (first-misplaced Cells row count))
 
-abbrev pub read-lettered : Option Letter → ℕ → List ℕ → Result Form Refusal
-read-lettered None count row = Err UnknownRow
-read-lettered (Some letter) count row = and-then (check-cells letter count row) (λ checked. read-cells letter row)
+abbrev pub read-lettered : Option Letter → ℕ → List ℕ → List ℕ → Result Form Refusal
+read-lettered None count rest row = Err UnknownRow
+read-lettered (Some letter) count rest row = and-then (check-cells letter count rest row) (λ checked. read-cells letter row)
 
 -- a letter, a cell count, and the rest
 abbrev pub read-form : List ℕ → Result Form Refusal
 read-form [] = Err UnknownRow
 read-form (byte ∷ []) = Err UnknownRow
-read-form (byte ∷ (count ∷ rest)) = read-lettered (letter-of byte) count (byte ∷ (count ∷ rest))
+read-form (byte ∷ (count ∷ rest)) = read-lettered (letter-of byte) count rest (byte ∷ (count ∷ rest))

@@ -1,7 +1,9 @@
 // A row taken apart: its letter, its cell count and its cells, read from the left.
 ghost use mathlib.Core.Path.{_≡_};
 ghost use Prim.Native.Nat.{_<_};
-ghost use Rattle.sheets.specs.Rows.{in-cell, number-cell, price-cell, type-cell, check-cells, read-cells, read-form};
+ghost use Rattle.sheets.specs.Rows.{in-cell, number-cell, price-cell, type-cell, check-cells, read-cells, read-lettered, read-form};
+ghost use Rattle.sheets.specs.Alone.{Row-alone, Cell-alone};
+ghost use Rattle.sheets.specs.Letters.{letter-of};
 ghost use Rattle.sheets.specs.Rows.{read-entry, read-change, read-cancel, read-mass-cancel, read-opening};
 use super::cells::read_number;
 use super::cells::read_price;
@@ -146,10 +148,10 @@ fn read_cells(letter: Letter, row: &[u8]) -> Result<Form, Refusal>
 }
 
 // Whether the row has the cells of its letter and room for their pairs, and each pair is placed.
-fn check_cells(letter: Letter, count: u8, row: &[u8]) -> Result<(), Refusal>
-    ensures told { λ r. ⌜ r ≡ check-cells letter count (now (row .entry)) ⌝ }
+fn check_cells(letter: Letter, count: u8, rest: &[u8], row: &[u8]) -> Result<(), Refusal>
+    ensures told { λ r. ⌜ r ≡ check-cells letter count (now (rest .entry)) (now (row .entry)) ⌝ }
 {
-    if count != letter.cells() || row.len() < Directory::Cells.end(u16::from(count)) {
+    if count != letter.cells() || rest.len() < 2 * usize::from(count) {
         return Err(Refusal::WrongCells);
     }
     match Directory::Cells.first_misplaced(row, u16::from(count)) {
@@ -158,18 +160,25 @@ fn check_cells(letter: Letter, count: u8, row: &[u8]) -> Result<(), Refusal>
     }
 }
 
-// Reads a row: its letter, then its pairs, then its cells.
+// Reads a row whose two first bytes are named: its letter, then its pairs, then its cells.
+fn read_lettered(byte: u8, count: u8, rest: &[u8], row: &[u8]) -> Result<Form, Refusal>
+    ensures told { λ r. ⌜ r ≡ read-lettered (letter-of byte) count (now (rest .entry)) (now (row .entry)) ⌝ }
+{
+    let Some(letter) = Letter::of(byte) else {
+        return Err(Refusal::UnknownRow);
+    };
+    check_cells(letter, count, rest, row)?;
+    read_cells(letter, row)
+}
+
+// Reads a row into the form that it asks for. What a row is read as hangs on its own bytes alone, and a cell on its own.
 pub fn read_form(row: &[u8]) -> Result<Form, Refusal>
     ensures told { λ r. ⌜ r ≡ read-form (now (row .entry)) ⌝ }
+    ensures rows { λ _. ⌜ Row-alone ⌝ }
+    ensures cells { λ _. ⌜ Cell-alone ⌝ }
 {
     match row {
-        [byte, count, ..] => match Letter::of(*byte) {
-            Some(letter) => {
-                check_cells(letter, *count, row)?;
-                read_cells(letter, row)
-            }
-            None => Err(Refusal::UnknownRow),
-        },
+        [letter, count, rest @ ..] => read_lettered(*letter, *count, rest, row),
         _ => Err(Refusal::UnknownRow),
     }
 }
