@@ -37,12 +37,12 @@ sheet-refusal bs = directory-refusal bs (row-count bs)
 -- a sheet just read: its first row comes next
 pub record Begun (bs : List ℕ) (s : Sheet) : Type 0 where
   pub bytes : s .bytes .now ≡ bs
-  pub rows : s .rows ≡ word bs 0
+  pub count : s .count ≡ word bs 0
   pub done : s .done ≡ 0
 
 -- the row that comes next: its number, from 1, and the bytes that its pair names
 abbrev pub next-row : Sheet → Option (ℕ × List ℕ)
-next-row s = cond (ltb (s .done) (s .rows)) (Some (s .done + 1, part-at Rows (s .bytes .now) (s .done))) None
+next-row s = cond (ltb (s .done) (s .count)) (Some (s .done + 1, part-at Rows (s .bytes .now) (s .done))) None
 
 -- what is handed out is that row, with a slip of its number
 abbrev pub Drew : Option (ℕ × List ℕ) → Option Drawn → Type 0
@@ -53,4 +53,4 @@ Drew (Some row) (Some d) = (d .slip .row ≡ row .0) × (d .bytes .now ≡ row .
 
 -- a sheet that has handed out its next row, where there is one
 abbrev pub moved-on : Sheet → Sheet
-moved-on s = record { bytes = s .bytes; rows = s .rows; done = cond (ltb (s .done) (s .rows)) (s .done + 1) (s .done) }
+moved-on s = record { bytes = s .bytes; count = s .count; done = cond (ltb (s .done) (s .count)) (s .done + 1) (s .done) }

@@ -9,7 +9,7 @@ use super::bytes::word_at;
 
 // What a directory's pairs name; they have two bytes a number in a sheet and one in a row.
 #[derive(Clone, Copy)]
-pub enum Directory {
+pub(crate) enum Directory {
     Rows,
     Cells,
 }

@@ -1,7 +1,7 @@
 // Reads an order sheet from bytes, and owes a reply for each of its rows.
 mod bytes;
 mod cells;
-pub mod directory;
+mod directory;
 pub mod letter;
 pub mod replies;
 pub mod reply;

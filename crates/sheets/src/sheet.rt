@@ -19,7 +19,7 @@ const MOST_BYTES: usize = 65535;
 #[derive(Drop)]
 pub struct Sheet<'a> {
     bytes: &'a [u8],
-    rows: u16,
+    count: u16,
     done: u16,
 }
 
@@ -51,12 +51,12 @@ impl<'a> Sheet<'a> {
         ensures told { λ r. ⌜ ByOk r (λ s. (sheet-refusal (now (bytes .entry)) ≡ None) × Begun (now (bytes .entry)) s)
             (λ e. sheet-refusal (now (bytes .entry)) ≡ Some e) ⌝ }
     {
-        let rows = row_count(bytes)?;
-        match Directory::Rows.first_misplaced(bytes, rows) {
+        let count = row_count(bytes)?;
+        match Directory::Rows.first_misplaced(bytes, count) {
             Some(row) => Err(Refusal::RowMisplaced { row }),
             None => Ok(Sheet {
                 bytes,
-                rows,
+                count,
                 done: 0,
             }),
         }
@@ -64,9 +64,9 @@ impl<'a> Sheet<'a> {
 
     // How many rows the sheet has.
     pub fn rows(&self) -> u16
-        ensures told { λ r. ⌜ r ≡ now (self .entry) .rows ⌝ }
+        ensures told { λ r. ⌜ r ≡ now (self .entry) .count ⌝ }
     {
-        self.rows
+        self.count
     }
 
     // The next row with its slip, or none after the last.
@@ -74,7 +74,7 @@ impl<'a> Sheet<'a> {
         ensures told { λ r. ⌜ Drew (next-row (now (self .entry))) r ⌝ }
         ensures left { λ _. ⌜ now (self .exit) ≡ moved-on (now (self .entry)) ⌝ }
     {
-        if self.done >= self.rows {
+        if self.done >= self.rows() {
             return None;
         }
         let bytes = Directory::Rows.part(self.bytes, self.done);
