@@ -1,5 +1,5 @@
 -- What a sheet is refused with, and which row comes next.
-use Prim.Native.Nat.{ℕ, _+_}
+use Prim.Native.Nat.{ℕ, _+_, _-_}
 use mathlib.Core.Bool.{cond, _||_}
 use mathlib.Core.List.{List}
 use mathlib.Core.Path.{_≡_}
@@ -54,3 +54,7 @@ Drew (Some row) (Some d) = (d .slip .row ≡ row .0) × (d .bytes .now ≡ row .
 -- a sheet that has handed out its next row, where there is one
 abbrev pub moved-on : Sheet → Sheet
 moved-on s = record { bytes = s .bytes; count = s .count; done = cond (ltb (s .done) (s .count)) (s .done + 1) (s .done) }
+
+-- how many rows are still to come
+abbrev pub rows-left : Sheet → ℕ
+rows-left s = s .count - s .done

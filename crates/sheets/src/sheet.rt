@@ -1,10 +1,12 @@
 // The sheet as a whole: its directory is looked through once, and then it hands out its rows one by one.
 ghost use mathlib.Core.Path.{_≡_};
+ghost use Prim.Native.Nat.{_+_};
 ghost use Rattle.std.specs.Options.{Cases};
 ghost use Rattle.std.specs.Results.{Cases as ByOk};
 ghost use Rattle.std.specs.declared.option.Option.the-variants.{Some, None};
 ghost use Rattle.std.specs.declared.result.Result.the-variants.{Ok, Err};
-ghost use Rattle.sheets.specs.Sheets.{row-count, sheet-refusal, Begun, next-row, Drew, moved-on};
+ghost use Rattle.sheets.specs.Sheets.{row-count, sheet-refusal, Begun, next-row, Drew, moved-on, rows-left};
+ghost use Rattle.sheets.specs.Pairs.{Pair-rule};
 use super::bytes::word_at;
 use super::directory::Directory;
 use super::slip::Slip;
@@ -50,6 +52,7 @@ impl<'a> Sheet<'a> {
     pub fn read(bytes: &'a [u8]) -> Result<Sheet<'a>, Refusal>
         ensures told { λ r. ⌜ ByOk r (λ s. (sheet-refusal (now (bytes .entry)) ≡ None) × Begun (now (bytes .entry)) s)
             (λ e. sheet-refusal (now (bytes .entry)) ≡ Some e) ⌝ }
+        ensures pairs { λ _. ⌜ Pair-rule ⌝ }
     {
         let count = row_count(bytes)?;
         match Directory::Rows.first_misplaced(bytes, count) {
@@ -73,6 +76,8 @@ impl<'a> Sheet<'a> {
     pub fn draw(&mut self) -> Option<Drawn<'a>>
         ensures told { λ r. ⌜ Drew (next-row (now (self .entry))) r ⌝ }
         ensures left { λ _. ⌜ now (self .exit) ≡ moved-on (now (self .entry)) ⌝ }
+        ensures rows { λ r. ⌜ Cases r (rows-left (now (self .entry)) ≡ 0)
+            (λ _. rows-left (now (self .exit)) + 1 ≡ rows-left (now (self .entry))) ⌝ }
     {
         if self.done >= self.rows() {
             return None;
