@@ -88,13 +88,13 @@ pub impl Kept for StopRow as StopRowKept {
 }
 
 pub fn size_of<T: Kept, L: Lane<Row = T>>(lane: &L) -> (usize, usize)
-    ensures { λ r. ⌜ r ≡ (length (map (T·Kept .item) (L·Lane .rows (now (lane .entry)))), L·Lane .space (now (lane .entry))) ⌝ }
+    ensures { λ r. ⌜ r ≡ (length (map (T·Kept .item) (L·Lane .run (now (lane .entry)) .rows)), L·Lane .run (now (lane .entry)) .space) ⌝ }
 {
     lane.size()
 }
 
 pub fn item_at<T: Kept, L: Lane<Row = T>>(lane: &L, at: usize) -> Option<T::Item>
-    ensures { λ r. ⌜ r ≡ nth (map (T·Kept .item) (L·Lane .rows (now (lane .entry)))) at ⌝ }
+    ensures { λ r. ⌜ r ≡ nth (map (T·Kept .item) (L·Lane .run (now (lane .entry)) .rows)) at ⌝ }
 {
     match lane.look(at) {
         Some(r) => Some(r.item()),
@@ -103,23 +103,23 @@ pub fn item_at<T: Kept, L: Lane<Row = T>>(lane: &L, at: usize) -> Option<T::Item
 }
 
 pub fn find_item<T: Kept, L: Lane<Row = T>>(lane: &L, n: u32) -> Option<usize>
-    ensures { λ r. ⌜ r ≡ first-number (T·Kept .number) n (map (T·Kept .item) (L·Lane .rows (now (lane .entry)))) ⌝ }
+    ensures { λ r. ⌜ r ≡ first-number (T·Kept .number) n (map (T·Kept .item) (L·Lane .run (now (lane .entry)) .rows)) ⌝ }
 {
     lane.find(n)
 }
 
 pub fn put_item<T: Kept, L: Lane<Row = T>>(lane: &mut L, i: T::Item) -> bool
-    ensures told { λ r. ⌜ r ≡ ltb (length (map (T·Kept .item) (L·Lane .rows (now (lane .entry))))) (L·Lane .space (now (lane .entry))) ⌝ }
-    ensures left { λ r. ⌜ map (T·Kept .item) (L·Lane .rows (now (lane .exit))) ≡ cond r (put-in (T·Kept .rank) i (map (T·Kept .item) (L·Lane .rows (now (lane .entry))))) (map (T·Kept .item) (L·Lane .rows (now (lane .entry)))) ⌝ }
-    ensures same { λ _. ⌜ L·Lane .space (now (lane .exit)) ≡ L·Lane .space (now (lane .entry)) ⌝ }
+    ensures told { λ r. ⌜ r ≡ ltb (length (map (T·Kept .item) (L·Lane .run (now (lane .entry)) .rows))) (L·Lane .run (now (lane .entry)) .space) ⌝ }
+    ensures left { λ r. ⌜ map (T·Kept .item) (L·Lane .run (now (lane .exit)) .rows) ≡ cond r (put-in (T·Kept .rank) i (map (T·Kept .item) (L·Lane .run (now (lane .entry)) .rows))) (map (T·Kept .item) (L·Lane .run (now (lane .entry)) .rows)) ⌝ }
+    ensures same { λ _. ⌜ L·Lane .run (now (lane .exit)) .space ≡ L·Lane .run (now (lane .entry)) .space ⌝ }
 {
     lane.put(T::lay(i))
 }
 
 pub fn take_item<T: Kept, L: Lane<Row = T>>(lane: &mut L, at: usize) -> Option<T::Item>
-    ensures told { λ r. ⌜ r ≡ nth (map (T·Kept .item) (L·Lane .rows (now (lane .entry)))) at ⌝ }
-    ensures left { λ _. ⌜ map (T·Kept .item) (L·Lane .rows (now (lane .exit))) ≡ removed (map (T·Kept .item) (L·Lane .rows (now (lane .entry)))) at ⌝ }
-    ensures same { λ _. ⌜ L·Lane .space (now (lane .exit)) ≡ L·Lane .space (now (lane .entry)) ⌝ }
+    ensures told { λ r. ⌜ r ≡ nth (map (T·Kept .item) (L·Lane .run (now (lane .entry)) .rows)) at ⌝ }
+    ensures left { λ _. ⌜ map (T·Kept .item) (L·Lane .run (now (lane .exit)) .rows) ≡ removed (map (T·Kept .item) (L·Lane .run (now (lane .entry)) .rows)) at ⌝ }
+    ensures same { λ _. ⌜ L·Lane .run (now (lane .exit)) .space ≡ L·Lane .run (now (lane .entry)) .space ⌝ }
 {
     match lane.take(at) {
         Some(r) => Some(r.item()),
@@ -128,9 +128,9 @@ pub fn take_item<T: Kept, L: Lane<Row = T>>(lane: &mut L, at: usize) -> Option<T
 }
 
 pub fn swap_item<T: Kept + Copy, L: Lane<Row = T>>(lane: &mut L, at: usize, i: T::Item) -> bool
-    ensures told { λ r. ⌜ r ≡ swap-fits (T·Kept .rank) at i (map (T·Kept .item) (L·Lane .rows (now (lane .entry)))) ⌝ }
-    ensures left { λ r. ⌜ map (T·Kept .item) (L·Lane .rows (now (lane .exit))) ≡ cond r (set (map (T·Kept .item) (L·Lane .rows (now (lane .entry)))) at i) (map (T·Kept .item) (L·Lane .rows (now (lane .entry)))) ⌝ }
-    ensures same { λ _. ⌜ L·Lane .space (now (lane .exit)) ≡ L·Lane .space (now (lane .entry)) ⌝ }
+    ensures told { λ r. ⌜ r ≡ swap-fits (T·Kept .rank) at i (map (T·Kept .item) (L·Lane .run (now (lane .entry)) .rows)) ⌝ }
+    ensures left { λ r. ⌜ map (T·Kept .item) (L·Lane .run (now (lane .exit)) .rows) ≡ cond r (set (map (T·Kept .item) (L·Lane .run (now (lane .entry)) .rows)) at i) (map (T·Kept .item) (L·Lane .run (now (lane .entry)) .rows)) ⌝ }
+    ensures same { λ _. ⌜ L·Lane .run (now (lane .exit)) .space ≡ L·Lane .run (now (lane .entry)) .space ⌝ }
 {
     let x = T::lay(i);
     match lane.look(at) {

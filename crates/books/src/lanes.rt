@@ -34,7 +34,7 @@ pub struct Lanes<O, S> {
 }
 
 pub impl<O: Lane<Row = OrderRow>, S: Lane<Row = StopRow>> Book for Lanes<O, S> as LanesBook {
-    ghost queues = { lanes-queues (O·Lane .rows) (O·Lane .space) (S·Lane .rows) (S·Lane .space) };
+    ghost queues = { lanes-queues (O·Lane .run) (S·Lane .run) };
 
     fn size(&self, queue: Queue) -> (usize, usize) {
         match queue {
