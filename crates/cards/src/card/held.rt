@@ -23,7 +23,7 @@ use orders::row::StopRow;
 use orders::side::Side;
 
 // How a record ranks in its queue.
-pub fn rank_of(record: Record) -> Rank
+pub(super) fn rank_of(record: Record) -> Rank
     ensures { λ r. ⌜ r ≡ record-rank «record» ⌝ }
 {
     match record {
@@ -33,7 +33,7 @@ pub fn rank_of(record: Record) -> Rank
 }
 
 // Whether a record has the rank of a queue's first one.
-pub fn ranks_as(first: Option<Record>, record: Record) -> bool
+pub(super) fn ranks_as(first: Option<Record>, record: Record) -> bool
     ensures { λ r. ⌜ r ≡ ranks-as record-rank «record» first ⌝ }
 {
     match first {
@@ -43,7 +43,7 @@ pub fn ranks_as(first: Option<Record>, record: Record) -> bool
 }
 
 // A held record in the place of a first one of its rank.
-pub fn over(held: Option<Record>, first: Option<Record>) -> Option<Record>
+pub(super) fn over(held: Option<Record>, first: Option<Record>) -> Option<Record>
     ensures { λ r. ⌜ r ≡ over-first record-rank held first ⌝ }
 {
     match held {
@@ -72,7 +72,7 @@ fn stop_lying(row: Option<StopRow>) -> Option<Record>
 
 impl<B> FrontCard<B> {
     // The record that is held over a queue.
-    pub fn held(&self, queue: Queue) -> Option<Record>
+    pub(super) fn held(&self, queue: Queue) -> Option<Record>
         ensures told { λ r. ⌜ r ≡ held-at queue (held-by (now (self .entry))) ⌝ }
         ensures there { λ r. ⌜ ((x : Kind) → r ≡ Some x → queue-of x ≡ queue) ⌝ }
     {
@@ -85,7 +85,7 @@ impl<B> FrontCard<B> {
     }
 
     // A record is held over its queue.
-    pub fn hold(&mut self, record: Record)
+    pub(super) fn hold(&mut self, record: Record)
         ensures left { λ _. ⌜ held-by (now (self .exit)) ≡ held-with «record» (held-by (now (self .entry))) ⌝ }
         ensures same { λ _. ⌜ now (self .exit) .below ≡ now (self .entry) .below ⌝ }
     {
@@ -102,7 +102,7 @@ impl<B> FrontCard<B> {
     }
 
     // Nothing is held over a queue any more.
-    pub fn let_go(&mut self, queue: Queue)
+    pub(super) fn let_go(&mut self, queue: Queue)
         ensures left { λ _. ⌜ held-by (now (self .exit)) ≡ held-without queue (held-by (now (self .entry))) ⌝ }
         ensures same { λ _. ⌜ now (self .exit) .below ≡ now (self .entry) .below ⌝ }
     {
