@@ -57,7 +57,7 @@ tape f = f .reel .lines
 -- an event finds a free line for each that it writes, and an undrawn stamp
 pub record Roomy (e : Event) (f : Floor) : Type 0 where
   pub free-lines : length (lines e) + length (tape f) ≤ f .reel .limit
-  pub free-stamps : stamps e + f .clock .stamp ≤ 1000000000
+  pub free-stamps : 1 ≤ stamps e → f .clock .stamp < 1000000000
 
 one-line : (l : Line) (r : Reel) → length (r .lines) < r .limit → written l r .lines ≡ l ∷ r .lines
 one-line l r h = cond-true (ltb (length (r .lines)) (r .limit)) (l ∷ r .lines) (r .lines) (lt-ltb (length (r .lines)) (r .limit) h)
@@ -80,26 +80,26 @@ tape-is (pulls c n i r) f h = one-line (line-C c (order-of-record r)) (f .reel) 
 tape-is (amends i o) f h = one-line (line-R o) (f .reel) (omega (arith, h .free-lines))
 tape-is (recalls s i o) f h = one-line (line-R o) (f .reel) (omega (arith, h .free-lines))
 
-one-stamp : (n : ℕ) → 1 + n ≤ 1000000000 → later n ≡ n + 1
-one-stamp n h = cond-true (ltb n 1000000000) (n + 1) n (lt-ltb n 1000000000 (omega arith))
+one-stamp : (n : ℕ) → n < 1000000000 → later n ≡ n + 1
+one-stamp n h = cond-true (ltb n 1000000000) (n + 1) n (lt-ltb n 1000000000 h)
 
-drawn-is : (k : Fate) (c : Clock) → fate-draws k + c .stamp ≤ 1000000000 → drawn-by k c .stamp ≡ c .stamp + fate-draws k
+drawn-is : (k : Fate) (c : Clock) → (1 ≤ fate-draws k → c .stamp < 1000000000) → drawn-by k c .stamp ≡ c .stamp + fate-draws k
 drawn-is gone c h = omega arith
-drawn-is again c h = one-stamp (c .stamp) h
+drawn-is again c h = one-stamp (c .stamp) (h (omega arith))
 drawn-is kept c h = omega arith
 
 pub stamp-is : (e : Event) (f : Floor) → Roomy e f → happen e f .clock .stamp ≡ f .clock .stamp + stamps e
-stamp-is (enters o) f h = one-stamp (f .clock .stamp) (h .free-stamps)
-stamp-is (parks x) f h = one-stamp (f .clock .stamp) (h .free-stamps)
-stamp-is (bounces c o) f h = one-stamp (f .clock .stamp) (h .free-stamps)
-stamp-is (misses n k) f h = one-stamp (f .clock .stamp) (h .free-stamps)
+stamp-is (enters o) f h = one-stamp (f .clock .stamp) (h .free-stamps (omega arith))
+stamp-is (parks x) f h = one-stamp (f .clock .stamp) (h .free-stamps (omega arith))
+stamp-is (bounces c o) f h = one-stamp (f .clock .stamp) (h .free-stamps (omega arith))
+stamp-is (misses n k) f h = one-stamp (f .clock .stamp) (h .free-stamps (omega arith))
 stamp-is (drops c o) f h = omega arith
 stamp-is (trades o r) f h = drawn-is (fate (deal o r) r) (f .clock) (h .free-stamps)
 stamp-is (stays o) f h = omega arith
-stamp-is (fires s x) f h = one-stamp (f .clock .stamp) (h .free-stamps)
+stamp-is (fires s x) f h = one-stamp (f .clock .stamp) (h .free-stamps (omega arith))
 stamp-is (pulls c n i r) f h = omega arith
 stamp-is (amends i o) f h = omega arith
-stamp-is (recalls s i o) f h = one-stamp (f .clock .stamp) (h .free-stamps)
+stamp-is (recalls s i o) f h = one-stamp (f .clock .stamp) (h .free-stamps (omega arith))
 
 pub limit-is : (e : Event) (f : Floor) → happen e f .reel .limit ≡ f .reel .limit
 limit-is (enters o) f = refl

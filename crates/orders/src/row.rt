@@ -26,8 +26,10 @@ pub struct OrderRow {
 }
 
 impl OrderRow {
+    // An order as a row, which reads back as the order.
     pub fn of(o: Order) -> OrderRow
-        ensures { λ r. ⌜ r ≡ row-of o ⌝ }
+        ensures value { λ r. ⌜ r ≡ row-of o ⌝ }
+        ensures back { λ r. ⌜ order-of r ≡ o ⌝ }
     {
         OrderRow {
             number: o.number,
@@ -110,8 +112,10 @@ pub struct StopRow {
 }
 
 impl StopRow {
+    // A stop as a row, which reads back as the stop.
     pub fn of(s: Stop) -> StopRow
-        ensures { λ r. ⌜ r ≡ stop-row-of s ⌝ }
+        ensures value { λ r. ⌜ r ≡ stop-row-of s ⌝ }
+        ensures back { λ r. ⌜ stop-of r ≡ s ⌝ }
     {
         StopRow {
             order: OrderRow::of(s.order),
@@ -119,6 +123,7 @@ impl StopRow {
         }
     }
 
+    // The stop that the row lies for.
     pub fn read(self) -> Stop
         ensures { λ r. ⌜ r ≡ stop-of self ⌝ }
     {

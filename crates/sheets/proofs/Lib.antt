@@ -1,0 +1,5 @@
+mod Apart
+mod Breaking
+mod Digits
+mod Inside
+mod Walks

@@ -1,0 +1,10 @@
+// Reads an order sheet from bytes, and owes a reply for each of its rows.
+mod bytes;
+mod cells;
+mod directory;
+pub mod letter;
+pub mod replies;
+pub mod reply;
+pub mod row;
+pub mod sheet;
+pub mod slip;

@@ -1,0 +1,4 @@
+pub mod Rooms
+pub mod Known
+pub mod Steps
+pub mod Days
