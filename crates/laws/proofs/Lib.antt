@@ -5,3 +5,4 @@ pub mod Rows
 pub mod Events
 pub mod Tapes
 pub mod Counts
+pub mod Following
