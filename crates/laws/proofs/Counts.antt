@@ -114,11 +114,11 @@ module _ (e : Event) (f : Floor) (fit : Fits e f) (k : Counts f) (x : Order) (is
   replaced : (o : Order) → Changes x o → (n : ℕ) → cond (eqb (o .number) n) (o .quantity) (quantity-of n (tape f)) + open-of n x ≡ quantity-of n (tape f) + open-of n o
   replaced o w n = rw (w .number) (old-number (x .number) n (o .quantity) (x .leaves) (o .leaves) (x .quantity) (quantity-of n (tape f)) (λ z. subst (λ m. quantity-of m (tape f) ≡ x .quantity) z was-known) (w .account))
 
-amended-is : (i : ℕ) (o : Order) (f : Floor) (h : Fits (amends i o) f) (g : Measure) → going (amends i o) f g ≡ g stands (h .0 .was)
+pub amended-is : (i : ℕ) (o : Order) (f : Floor) (h : Fits (amends i o) f) (g : Measure) → going (amends i o) f g ≡ g stands (h .0 .was)
 amended-is i o f h g = ap (of-hand (g stands)) (h .0 .there)
 
-recalled-is : (s : _) (i : ℕ) (o : Order) (f : Floor) (h : Fits (recalls s i o) f) (g : Measure) → going (recalls s i o) f g ≡ g stands (h .was)
-recalled-is s i o f h g = ap (of-hand (g stands)) (h .there)
+pub recalled-is : (s : _) (i : ℕ) (o : Order) (f : Floor) (h : Fits (recalls s i o) f) (g : Measure) → going (recalls s i o) f g ≡ g stands (h .0 .was)
+recalled-is s i o f h g = ap (of-hand (g stands)) (h .0 .there)
 
 -- what an event writes, takes up and puts down balances, for each number
 balance : (e : Event) (f : Floor) → Fits e f → Counts f → (n : ℕ) →
@@ -138,7 +138,7 @@ balance (fires s x) f h k n =
 balance (pulls c (Orders s) i r) f h k n = omega arith
 balance (pulls c (Stops s) i r) f h k n = omega arith
 balance (amends i o) f h k n = omega (arith, amended-is i o f h (lots-of n), replaced (amends i o) f h k (h .0 .was) (amended-is i o f h) o (h .0 .changes) n)
-balance (recalls s i o) f h k n = omega (arith, recalled-is s i o f h (lots-of n), replaced (recalls s i o) f h k (h .was) (recalled-is s i o f h) o (h .changes) n)
+balance (recalls s i o) f h k n = omega (arith, recalled-is s i o f h (lots-of n), replaced (recalls s i o) f h k (h .0 .was) (recalled-is s i o f h) o (h .0 .changes) n)
 
 unborn-happen : (e : Event) (f : Floor) → Fits e f → Counts f → (n : ℕ) → f .clock .stamp + stamps e ≤ n → quantity-of n (lines e ++ tape f) ≡ 0
 unborn-happen (enters o) f h k n l = rw (ne-eqb (o .number) n (λ e. omega (arith, h .new, e))) (k .unborn n (omega arith))
@@ -154,8 +154,8 @@ unborn-happen (amends i o) f h k n l =
     let b = was-born (amends i o) f h k (h .0 .was) (amended-is i o f h) in
     rw (ne-eqb (o .number) n (λ e. omega (arith, h .0 .changes .number, e))) (k .unborn n (omega arith))
 unborn-happen (recalls s i o) f h k n l =
-    let b = was-born (recalls s i o) f h k (h .was) (recalled-is s i o f h) in
-    rw (ne-eqb (o .number) n (λ e. omega (arith, h .changes .number, e))) (k .unborn n (omega arith))
+    let b = was-born (recalls s i o) f h k (h .0 .was) (recalled-is s i o f h) in
+    rw (ne-eqb (o .number) n (λ e. omega (arith, h .0 .changes .number, e))) (k .unborn n (omega arith))
 
 -- numbers after a trade are the numbers before
 one-held : (n lots : ℕ) (o : Order) → of-hand (one-of n incoming) (held lots o) ≤ one-of n incoming o
@@ -183,7 +183,7 @@ single-coming (stays o) f h k n = inl (omega arith)
 single-coming (fires s x) f h k n = inl (omega arith)
 single-coming (pulls c m i r) f h k n = inl (omega arith)
 single-coming (amends i o) f h k n = inl (let z : one-of n stands o ≡ one-of n stands (h .0 .was) = ap (λ m. counting n m 1) (h .0 .changes .number) in omega (arith, amended-is i o f h (one-of n)))
-single-coming (recalls s i o) f h k n = inl (let z : one-of n incoming o ≡ one-of n stands (h .was) = ap (λ m. counting n m 1) (h .changes .number) in omega (arith, recalled-is s i o f h (one-of n)))
+single-coming (recalls s i o) f h k n = inl (let z : one-of n incoming o ≡ one-of n stands (h .0 .was) = ap (λ m. counting n m 1) (h .0 .changes .number) in omega (arith, recalled-is s i o f h (one-of n)))
 
 -- what is not known after a line A or R of number m either was not known or has that number
 still-known : (m lots : ℕ) (l : List Line) (p : Place) (o : Order) → cond {A = ℕ} (eqb (cond (eqb m (o .number)) lots (quantity-of (o .number) l)) (o .quantity)) 0 1 ≤ unknown l p o + one-of m p o
@@ -260,8 +260,8 @@ known-happen (amends i o) f h k =
     omega (arith, known-others (o .number) (o .quantity) (tape f) (rest-queues e f) None (unknown (lines e ++ tape f)) (still-known (o .number) (o .quantity) (tape f)) (rest-known e f h k) (rest-other e f h k (o .number) (omega (arith, amended-is i o f h (one-of (o .number))))), known-new (o .number) (o .quantity) (tape f) o refl refl)
 known-happen (recalls s i o) f h k =
     let e : Event = recalls s i o in
-    let x : Order = h .was in
-    let one : one-of (o .number) stands x ≡ 1 = rw (h .changes .number) (one-itself stands x) in
+    let x : Order = h .0 .was in
+    let one : one-of (o .number) stands x ≡ 1 = rw (h .0 .changes .number) (one-itself stands x) in
     omega (arith, known-others (o .number) (o .quantity) (tape f) (rest-queues e f) None (unknown (lines e ++ tape f)) (still-known (o .number) (o .quantity) (tape f)) (rest-known e f h k) (rest-other e f h k (o .number) (omega (arith, recalled-is s i o f h (one-of (o .number))))), known-new (o .number) (o .quantity) (tape f) o refl refl)
 
 -- each event leaves all accounted for

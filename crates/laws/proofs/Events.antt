@@ -35,7 +35,8 @@ use Rattle.matching.specs.Model.{Floor, Event, enters, parks, bounces, misses, 
 use Rattle.matching.specs.Next.{total, first-order, first-stop}
 use Rattle.laws.specs.Tally.{Place, stands, waits, incoming}
 use Rattle.laws.proofs.Lists.{length-taken, all-nth}
-use Rattle.laws.proofs.Queues.{Low, Sided, Good, Clear, Beyond, Same-place, at-own, good-cut, good-stop-cut, good-put, good-stop-put, good-set, clear-nth, clear-own, clear-beyond}
+use Rattle.laws.proofs.Rows.{Shows, renewed-shows}
+use Rattle.laws.proofs.Queues.{Low, Sided, Stop-sided, Good, Clear, Beyond, Same-place, at-own, good-cut, good-stop-cut, good-put, good-stop-put, good-set, clear-nth, clear-own, clear-beyond}
 use Rattle.laws.proofs.Sums.{Measure, queued, of-hand, over, everywhere, one-of, queued-cut, queued-stop-cut, queued-put, queued-stop-put, queued-set, put-done}
 
 -- a new order, wholly open, under the next stamp
@@ -44,6 +45,7 @@ pub record Arrives (o : Order) (f : Floor) : Type 0 where
   pub new : o .number ≡ f .clock .stamp
   pub whole : o .leaves ≡ o .quantity
   pub low : Low (o .price)
+  pub shows : Shows o
 
 -- one order after a change: its traded lots are the same
 pub record Changes (o o′ : Order) : Type 0 where
@@ -94,7 +96,7 @@ Fits (stays o) f = Stays o f
 Fits (fires s x) f = (f .hand ≡ None) × (nth (at s (f .queues .waits)) 0 ≡ Some x)
 Fits (pulls c n i r) f = (f .hand ≡ None) × Lies n i r (f .queues)
 Fits (amends i o) f = (h : Changed-at (o .side) i o f) × Same-place (h .was) o
-Fits (recalls s i o) f = Changed-at s i o f
+Fits (recalls s i o) f = Changed-at s i o f × Shows o
 
 -- what goes with an event, and what comes
 
@@ -173,8 +175,8 @@ module _ (g : Measure) where
       let z : of-hand (g stands) (nth (at (o .side) (f .queues .stands)) i) ≡ g stands (h .0 .was) = ap (of-hand (g stands)) (h .0 .there) in
       omega (arith, none-in-hand f (h .0 .idle), queued-cut g (o .side) i (h .0 .was) (f .queues) (h .0 .there))
   taken-up (recalls s i o) f h =
-      let z : of-hand (g stands) (nth (at s (f .queues .stands)) i) ≡ g stands (h .was) = ap (of-hand (g stands)) (h .there) in
-      omega (arith, none-in-hand f (h .idle), queued-cut g s i (h .was) (f .queues) (h .there))
+      let z : of-hand (g stands) (nth (at s (f .queues .stands)) i) ≡ g stands (h .0 .was) = ap (of-hand (g stands)) (h .0 .there) in
+      omega (arith, none-in-hand f (h .0 .idle), queued-cut g s i (h .0 .was) (f .queues) (h .0 .there))
 
 -- each number is had once at most
 abbrev pub Single : Floor → Type 0
@@ -288,39 +290,39 @@ good-pull : (n : Queue) (i : ℕ) (r : Record) (q : Queues) → Lies n i r q →
 good-pull (Orders s) i r q h g = good-cut s i (h .0) q (h .2) g
 good-pull (Stops s) i r q h g = good-stop-cut s i (h .0) q (h .2) g
 
--- the order in hand has a price that a rank can tell
-abbrev pub Hand-low : Option Order → Type 0
-Hand-low None = Unit {0}
-Hand-low (Some o) = Low (o .price)
+-- the order in hand has a price that a rank can tell, and shows as in trading
+abbrev pub Ready : Option Order → Type 0
+Ready None = Unit {0}
+Ready (Some o) = Low (o .price) × Shows o
 
-pub good-happen : (e : Event) (f : Floor) → Fits e f → Good (f .queues) → Single f → Hand-low (f .hand) → Good (happen e f .queues)
+pub good-happen : (e : Event) (f : Floor) → Fits e f → Good (f .queues) → Single f → Ready (f .hand) → Good (happen e f .queues)
 good-happen (enters o) f h g s l = g
 good-happen (parks x) f h g s l = good-stop-put x (f .queues) (h .room-left) (h .arrives .low) (h .low) g
 good-happen (bounces c o) f h g s l = g
 good-happen (misses n m) f h g s l = g
 good-happen (drops c o) f h g s l = g
 good-happen (trades o r) f h g s l = subst Good (sym (met-trade o r f h g s)) (good-fate (fate (deal o r) r) (deal o r) (f .clock .stamp) r (f .queues) (own-first o r f h g) g)
-good-happen (stays o) f h g s l = good-put o (f .queues) (h .room-left) (subst Hand-low (h .in-hand) l) (clear-beyond o (o .side) (f .queues .stands) (h .beyond)) g
+good-happen (stays o) f h g s l = good-put o (f .queues) (h .room-left) (subst Ready (h .in-hand) l .0) (clear-beyond o (o .side) (f .queues .stands) (h .beyond)) g
 good-happen (fires z x) f h g s l = good-stop-cut z 0 x (f .queues) (h .1) g
 good-happen (pulls c n i r) f h g s l = good-pull n i r (f .queues) (h .1) g
 good-happen (amends i o) f h g s l =
     let x : Order = h .0 .was in
     let p = h .1 in
     subst Good (sym (rewrites i x o (f .queues) (h .0 .there) (rw (p .side, p .price, p .turn, p .number) refl))) (good-set i x o (f .queues) (h .0 .there) p g)
-good-happen (recalls z i o) f h g s l = good-cut z i (h .was) (f .queues) (h .there) g
+good-happen (recalls z i o) f h g s l = good-cut z i (h .0 .was) (f .queues) (h .0 .there) g
 
-held-low : (lots : ℕ) (o : Order) → Low (o .price) → Hand-low (held lots o)
-held-low lots o h = cond-both (eqb (o .leaves) lots) None (Some (renewed (o .turn) lots o)) Hand-low (λ _. tt) (λ _. h)
+held-ready : (lots : ℕ) (o : Order) → lots ≤ o .leaves → Low (o .price) → Ready (held lots o)
+held-ready lots o n h = cond-both (eqb (o .leaves) lots) None (Some (renewed (o .turn) lots o)) Ready (λ _. tt) (λ e. let z = eqb-false (o .leaves) lots e in (h, renewed-shows (o .turn) lots o (omega arith)))
 
-pub low-happen : (e : Event) (f : Floor) → Fits e f → Good (f .queues) → Hand-low (f .hand) → Hand-low (happen e f .hand)
-low-happen (enters o) f h g l = h .low
-low-happen (parks x) f h g l = tt
-low-happen (bounces c o) f h g l = tt
-low-happen (misses n m) f h g l = tt
-low-happen (drops c o) f h g l = tt
-low-happen (trades o r) f h g l = held-low (deal o r) o (subst Hand-low (h .in-hand) l)
-low-happen (stays o) f h g l = tt
-low-happen (fires z x) f h g l = all-nth _ (at z (f .queues .waits)) 0 x (h .1) (g .stops-sided z) .1
-low-happen (pulls c n i r) f h g l = l
-low-happen (amends i o) f h g l = l
-low-happen (recalls z i o) f h g l = h .changes .low
+pub ready-happen : (e : Event) (f : Floor) → Fits e f → Good (f .queues) → Ready (f .hand) → Ready (happen e f .hand)
+ready-happen (enters o) f h g l = (h .low, h .shows)
+ready-happen (parks x) f h g l = tt
+ready-happen (bounces c o) f h g l = tt
+ready-happen (misses n m) f h g l = tt
+ready-happen (drops c o) f h g l = tt
+ready-happen (trades o r) f h g l = held-ready (deal o r) o (omega arith) (subst Ready (h .in-hand) l .0)
+ready-happen (stays o) f h g l = tt
+ready-happen (fires z x) f h g l = (all-nth (Stop-sided z) (at z (f .queues .waits)) 0 x (h .1) (g .stops-sided z) .1, renewed-shows (f .clock .stamp) 0 (x .order) (omega arith))
+ready-happen (pulls c n i r) f h g l = l
+ready-happen (amends i o) f h g l = l
+ready-happen (recalls z i o) f h g l = (h .0 .changes .low, h .1)

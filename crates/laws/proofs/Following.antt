@@ -34,7 +34,7 @@ use Rattle.matching.proofs.Turns.{settle-next, settle-zero, lighter}
 use Rattle.laws.specs.Quiet.{Unripe}
 use Rattle.laws.proofs.Lists.{Sorted}
 use Rattle.laws.proofs.Queues.{Good, Sided, Stop-sided, Beyond, beyond-first, no-riper}
-use Rattle.laws.proofs.Events.{Fits, Hand-low, good-happen, low-happen, Lies}
+use Rattle.laws.proofs.Events.{Fits, Ready, good-happen, ready-happen, Lies}
 use Rattle.laws.proofs.Tapes.{lines, stamps, fate-draws, tape, Roomy, tape-is, stamp-is, limit-is}
 use Rattle.laws.proofs.Counts.{Counts, counts-happen}
 
@@ -42,10 +42,10 @@ use Rattle.laws.proofs.Counts.{Counts, counts-happen}
 pub record Sane (f : Floor) : Type 0 where
   pub good : Good (f .queues)
   pub counts : Counts f
-  pub low : Hand-low (f .hand)
+  pub ready : Ready (f .hand)
 
 pub sane-happen : (e : Event) (f : Floor) → Fits e f → Roomy e f → Sane f → Sane (happen e f)
-sane-happen e f h r s = record { good = good-happen e f h (s .good) (s .counts .single) (s .low); counts = counts-happen e f h r (s .good) (s .counts); low = low-happen e f h (s .good) (s .low) }
+sane-happen e f h r s = record { good = good-happen e f h (s .good) (s .counts .single) (s .ready); counts = counts-happen e f h r (s .good) (s .counts); ready = ready-happen e f h (s .good) (s .ready) }
 
 -- the events that follow whatever was asked
 abbrev pub Follows : Event → Type 0

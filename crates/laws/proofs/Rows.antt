@@ -69,3 +69,17 @@ entered-row a price stamp = record {
 
 pub order-from-row : (a : Asked) (price : Price) (stamp : ℕ) → Allowed (a .quantity) (a .disclosed) → row-of (order-from a price stamp) ≡ entered-row a price stamp
 order-from-row a price stamp h = reads (entered-row a price stamp) (anew-fits (entered-row a price stamp) refl (h .some) (omega arith) h)
+
+-- an order that shows as in trading
+abbrev pub Shows : Order → Type 0
+Shows o = o .shown ≡ showing (o .disclosed) (o .leaves)
+
+pub renewed-shows : (turn lots : ℕ) (o : Order) → lots < o .leaves → Shows (renewed turn lots o)
+renewed-shows turn lots o h =
+    let e = renewed-row turn lots o h in
+    ap (λ (r : OrderRow). r .shown) e ∙ sym (ap (λ (r : OrderRow). showing (r .disclosed) (r .leaves)) e)
+
+pub entered-shows : (a : Asked) (price : Price) (stamp : ℕ) → Allowed (a .quantity) (a .disclosed) → Shows (order-from a price stamp)
+entered-shows a price stamp h =
+    let e = order-from-row a price stamp h in
+    ap (λ (r : OrderRow). r .shown) e ∙ sym (ap (λ (r : OrderRow). showing (r .disclosed) (r .leaves)) e)
