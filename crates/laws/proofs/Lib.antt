@@ -6,3 +6,4 @@ pub mod Events
 pub mod Tapes
 pub mod Counts
 pub mod Following
+pub mod Tallies
