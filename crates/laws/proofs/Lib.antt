@@ -7,3 +7,6 @@ pub mod Tapes
 pub mod Counts
 pub mod Following
 pub mod Tallies
+pub mod Firsts
+pub mod Fairness
+pub mod Arriving
