@@ -47,7 +47,7 @@ pub record Sane (f : Floor) : Type 0 where
 pub sane-happen : (e : Event) (f : Floor) → Fits e f → Roomy e f → Sane f → Sane (happen e f)
 sane-happen e f h r s = record { good = good-happen e f h (s .good) (s .counts .single) (s .ready); counts = counts-happen e f h r (s .good) (s .counts); ready = ready-happen e f h (s .good) (s .ready) }
 
--- the events that follow whatever was asked
+-- the events that follow by themselves
 abbrev pub Follows : Event → Type 0
 Follows (enters o) = ⊥
 Follows (parks x) = ⊥
@@ -57,7 +57,7 @@ Follows (drops c o) = Unit {0}
 Follows (trades o r) = Unit {0}
 Follows (stays o) = Unit {0}
 Follows (fires s x) = Unit {0}
-Follows (pulls c n i r) = Unit {0}
+Follows (pulls c n i r) = ⊥
 Follows (amends i o) = ⊥
 Follows (recalls s i o) = ⊥
 
@@ -76,7 +76,7 @@ one-line-each (drops c o) i = (omega arith, omega arith)
 one-line-each (trades o r) i = (omega arith, fate-draws-one (fate (deal o r) r))
 one-line-each (stays o) i = (omega arith, omega arith)
 one-line-each (fires s x) i = (omega arith, omega arith)
-one-line-each (pulls c n i r) _ = (omega arith, omega arith)
+one-line-each (pulls c n i r) h = absurd h
 one-line-each (amends i o) h = absurd h
 one-line-each (recalls s i o) h = absurd h
 

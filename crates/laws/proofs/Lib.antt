@@ -10,3 +10,5 @@ pub mod Tallies
 pub mod Firsts
 pub mod Fairness
 pub mod Arriving
+pub mod Changing
+pub mod Telling
