@@ -12,3 +12,6 @@ pub mod Fairness
 pub mod Arriving
 pub mod Changing
 pub mod Telling
+pub mod Supplies
+pub mod Sweeping
+pub mod Stepping
