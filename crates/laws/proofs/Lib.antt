@@ -15,3 +15,4 @@ pub mod Telling
 pub mod Supplies
 pub mod Sweeping
 pub mod Stepping
+pub mod Reading

@@ -2,3 +2,4 @@ pub mod Accounts
 pub mod Quiet
 pub mod Tally
 pub mod Fair
+pub mod Runs
