@@ -16,3 +16,5 @@ pub mod Supplies
 pub mod Sweeping
 pub mod Stepping
 pub mod Reading
+pub mod Answering
+pub mod Running

@@ -1,4 +1,16 @@
-// The laws of every run, above any book.
-pub fn lawful() -> u8 {
+// The laws of every run, above any book: each is the contract of a function that does nothing else.
+ghost use Rattle.laws.specs.Runs.{Always-lawful, Always-fair};
+
+// After setting up and after every step, every lot is accounted for, no bid meets an offer and no stop is ripe.
+pub fn always_lawful() -> u8
+    ensures { λ _. ⌜ Always-lawful ⌝ }
+{
+    0
+}
+
+// No trade passes a limit or a turn, by a tally of the lines and arguments alone, which holds both orders.
+pub fn always_fair() -> u8
+    ensures { λ _. ⌜ Always-fair ⌝ }
+{
     0
 }
