@@ -18,3 +18,4 @@ pub mod Stepping
 pub mod Reading
 pub mod Answering
 pub mod Running
+pub mod Broken

@@ -3,3 +3,4 @@ pub mod Quiet
 pub mod Tally
 pub mod Fair
 pub mod Runs
+pub mod Teeth
