@@ -28,7 +28,7 @@ use Rattle.venue.specs.Steps.{opening-told, pull-daily, answered}
 use Rattle.venue.specs.Days.{State, floor-of, opened, closed, at-least-1, set-up, after-closing, after-opening, answer-on, step-on, answer, step}
 use Rattle.laws.specs.Tally.{Tally, noted, starting}
 use Rattle.laws.specs.Fair.{Fair-lines}
-use Rattle.laws.specs.Runs.{clock-of, Lawful, Throughout, request, written, fed, tallied, Fair-throughout}
+use Rattle.laws.specs.Runs.{clock-of, Lawful, Throughout, request, written, fed, tallied, Fair-throughout, after, tally-after, Upheld}
 use Rattle.laws.proofs.Tapes.{tape}
 use Rattle.laws.proofs.Following.{Calm}
 use Rattle.laws.proofs.Tallies.{Matches}
@@ -128,3 +128,19 @@ calm-set-up day stamp q limit = record {
 
 pub match-set-up : (day stamp : ℕ) (q : Queues) (limit : ℕ) → Matches (starting (at-least-1 stamp)) (floor (set-up day stamp q limit))
 match-set-up day stamp q limit = record { sums = λ g. refl; turns = refl }
+
+-- after any list of steps
+
+pub calm-after : (forms : List Form) (s : State) (t : Tally) → Calm (floor s) → Matches t (floor s) → Calm (floor (after forms s)) × Matches (tally-after forms s t) (floor (after forms s))
+calm-after [] s t c m = (c, m)
+calm-after (form ∷ forms) s t c m = calm-after forms (step form s) (tallied form s t) (ends-step form s t c m .calm) (matches-step form s t c m)
+
+pub upheld : (form : Form) (s : State) → Upheld form s
+upheld form s day stamp q limit forms e =
+    let z : State = set-up day stamp q limit in
+    let t : Tally = starting (at-least-1 stamp) in
+    subst (λ (s : State). Lawful (step form s) × Fair-lines (request form) (written s (step form s)) (tally-after forms z t)) (sym e) (next (after forms z) (tally-after forms z t) (calm-after forms z t (calm-set-up day stamp q limit) (match-set-up day stamp q limit)))
+  where
+    next : (s : State) (t : Tally) → Calm (floor s) × Matches t (floor s) → Lawful (step form s) × Fair-lines (request form) (written s (step form s)) t
+    next s t h = let k = ends-step form s t (h .0) (h .1) in
+        (lawful-calm (step form s) (k .calm), subst (λ l. Fair-lines (request form) l t) (sym (written-is s (step form s) (k .said) (k .tape-grew))) (k .fair))

@@ -80,3 +80,19 @@ Fair-throughout (form ∷ forms) s t = Fair-lines (request form) (written s (ste
 -- the tally is empty at setting up, and its turns are counted from the first stamp
 abbrev pub Always-fair : Type 0
 Always-fair = (day stamp : ℕ) (q : Queues) (limit : ℕ) (forms : List Form) → Fair-throughout forms (set-up day stamp q limit) (starting (at-least-1 stamp))
+
+-- the state and the tally after a list of steps
+
+abbrev pub after : List Form → State → State
+after [] s = s
+after (form ∷ forms) s = after forms (step form s)
+
+abbrev pub tally-after : List Form → State → Tally → Tally
+tally-after [] s t = t
+tally-after (form ∷ forms) s t = tally-after forms (step form s) (tallied form s t)
+
+-- the laws after one more step, whatever setting and steps led to this state
+abbrev pub Upheld : Form → State → Type 0
+Upheld form s =
+    (day stamp : ℕ) (q : Queues) (limit : ℕ) (forms : List Form) → s ≡ after forms (set-up day stamp q limit) →
+    Lawful (step form s) × Fair-lines (request form) (written s (step form s)) (tally-after forms (set-up day stamp q limit) (starting (at-least-1 stamp)))
