@@ -56,6 +56,7 @@ use Rattle.venue.specs.Steps.{answered, left-by, entry-told, quantity-open, dis
 use Rattle.laws.specs.Tally.{Tally, Request, entry, change, removal, noted, at-ease}
 use Rattle.laws.specs.Fair.{Fair-lines}
 use Rattle.laws.specs.Runs.{entry-asked, change-asked, request, fed}
+use Rattle.laws.specs.Smooth.{Course, ended}
 use Rattle.laws.proofs.Lists.{all-nth}
 use Rattle.laws.proofs.Queues.{Good, Low, Sided}
 use Rattle.laws.proofs.Events.{Lies}
@@ -77,9 +78,10 @@ pub record Ends (form : Form) (t : Tally) (f : Floor) (r : Result (Unit {0}) Ref
   pub tape-grew : tape g ≡ said ++ tape f
   pub fair : Fair-lines (request form) said t
   pub matches : Matches (fed r (request form) said t) g
+  pub course : Course f g
 
 pub ends-here : (form : Form) (t : Tally) (f : Floor) (r : Result (Unit {0}) Refusal) → Calm f → Matches t f → Ends form t f r f
-ends-here form t f r c m = record { calm = c; said = []; tape-grew = refl; fair = tt; matches = go r }
+ends-here form t f r c m = record { calm = c; said = []; tape-grew = refl; fair = tt; matches = go r; course = ended }
   where
     go : (r : Result (Unit {0}) Refusal) → Matches (fed r (request form) [] t) f
     go (Ok x) = match-idle f t (c .idle) m
@@ -92,6 +94,7 @@ ends-goes form t f g h = record {
   tape-grew = h .told .tape-grew;
   fair = h .told .fair;
   matches = with-none g (noted (request form) (h .told .said) t) (h .calm .idle) (h .told .with-it);
+  course = h .course;
 }
 
 -- what each check gives
@@ -186,10 +189,10 @@ permitted c o w l a d = record {
   low = new-low (c .price) (o .price) (w .price) l;
 }
 
-abbrev Change-given : ChangeForm → Floor → Plan → Type 0
+abbrev pub Change-given : ChangeForm → Floor → Plan → Type 0
 Change-given form f p = Permitted (p .change) (p .order) × Supplied f × (nth (at (p .order .side) (f .queues .stands)) (p .at) ≡ Some (p .order)) × (request (ChangeStep form) ≡ change (p .change))
 
-change-given : (form : ChangeForm) (f : Floor) → Good (f .queues) → In-ok (Change-given form f) (change-told form f)
+pub change-given : (form : ChangeForm) (f : Floor) → Good (f .queues) → In-ok (Change-given form f) (change-told form f)
 change-given form f g =
     ok-then (λ (a : ChangeAsked). Within-ranges (a .change) × (read-change form ≡ Ok a)) (Change-given form f) (read-change form) _ (with-eq (λ (a : ChangeAsked). Within-ranges (a .change)) (read-change form) (change-ok form)) (λ a w.
     ok-then _ (Change-given form f) (lines-free (f .queues) (f .reel)) _ (lines-ok f) (λ _ l.

@@ -36,7 +36,8 @@ use Rattle.laws.proofs.Queues.{Good, Low, Sided}
 use Rattle.laws.proofs.Sums.{Measure, over-agree, everywhere, one-of}
 use Rattle.laws.proofs.Rows.{Allowed, Shows, entered-row, order-from-row, entered-shows}
 use Rattle.laws.proofs.Events.{Arrives, Parks, Fits, going, coming, taken-up, put-down}
-use Rattle.laws.proofs.Tapes.{lines, tape, Roomy, stamp-is}
+use Rattle.laws.specs.Smooth.{lines}
+use Rattle.laws.proofs.Tapes.{tape, Roomy, stamp-is}
 use Rattle.laws.proofs.Counts.{absent}
 use Rattle.laws.proofs.Following.{Sane, Calm, done-room}
 use Rattle.laws.proofs.Tallies.{View, by-row, as-seen, seen, on-account, of-maybe, through, Matches, total-adjust, not-only}

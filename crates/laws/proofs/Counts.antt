@@ -29,7 +29,8 @@ use Rattle.laws.proofs.Queues.{Good}
 use Rattle.laws.proofs.Sums.{Measure, of-hand, over, everywhere, over-le, over-plus, one-of}
 use Rattle.laws.proofs.Rows.{renewed-row, lowered-row}
 use Rattle.laws.proofs.Events.{Arrives, Changes, Fits, of-fate, going, coming, rest-queues, resting, taken-up, put-down, Single, one-itself}
-use Rattle.laws.proofs.Tapes.{lines, stamps, tape, Roomy, tape-is, stamp-is}
+use Rattle.laws.specs.Smooth.{lines, stamps}
+use Rattle.laws.proofs.Tapes.{tape, Roomy, tape-is, stamp-is}
 
 abbrev pub lots-of : ℕ → Measure
 lots-of n p o = open-of n o

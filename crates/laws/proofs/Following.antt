@@ -35,7 +35,8 @@ use Rattle.laws.specs.Quiet.{Unripe}
 use Rattle.laws.proofs.Lists.{Sorted}
 use Rattle.laws.proofs.Queues.{Good, Sided, Stop-sided, Beyond, beyond-first, no-riper}
 use Rattle.laws.proofs.Events.{Fits, Ready, good-happen, ready-happen, Lies}
-use Rattle.laws.proofs.Tapes.{lines, stamps, fate-draws, tape, Roomy, tape-is, stamp-is, limit-is}
+use Rattle.laws.specs.Smooth.{lines, stamps, fate-draws}
+use Rattle.laws.proofs.Tapes.{tape, Roomy, tape-is, stamp-is, limit-is}
 use Rattle.laws.proofs.Counts.{Counts, counts-happen}
 
 -- what holds of a floor at all times
@@ -151,10 +152,10 @@ pub record Enough (f : Floor) : Type 0 where
   pub free-lines : length (tape f) + weight f ≤ f .reel .limit
   pub free-stamps : f .clock .stamp + weight f ≤ 1000000000
 
-roomy-next : (e : Event) (f : Floor) → Follows e → suc (weight (happen e f)) ≤ weight f → Enough f → Roomy e f
+pub roomy-next : (e : Event) (f : Floor) → Follows e → suc (weight (happen e f)) ≤ weight f → Enough f → Roomy e f
 roomy-next e f i w h = let a = one-line-each e i in record { free-lines = omega (arith, h .free-lines, a .0); free-stamps = λ _. omega (arith, h .free-stamps) }
 
-enough-next : (e : Event) (f : Floor) → Follows e → suc (weight (happen e f)) ≤ weight f → Enough f → Enough (happen e f)
+pub enough-next : (e : Event) (f : Floor) → Follows e → suc (weight (happen e f)) ≤ weight f → Enough f → Enough (happen e f)
 enough-next e f i w h =
     let a = one-line-each e i in
     let r = roomy-next e f i w h in

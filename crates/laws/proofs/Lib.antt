@@ -6,6 +6,7 @@ pub mod Events
 pub mod Tapes
 pub mod Counts
 pub mod Following
+pub mod Courses
 pub mod Tallies
 pub mod Firsts
 pub mod Fairness

@@ -29,15 +29,12 @@ use Rattle.venue.specs.Days.{State, floor-of, opened, closed, at-least-1, set-u
 use Rattle.laws.specs.Tally.{Tally, noted, starting}
 use Rattle.laws.specs.Fair.{Fair-lines}
 use Rattle.laws.specs.Runs.{clock-of, Lawful, Throughout, request, written, fed, tallied, Fair-throughout, after, tally-after, Upheld}
+use Rattle.laws.specs.Smooth.{floor, Course, Always-smooth}
 use Rattle.laws.proofs.Tapes.{tape}
 use Rattle.laws.proofs.Following.{Calm}
 use Rattle.laws.proofs.Tallies.{Matches}
 use Rattle.laws.proofs.Reading.{In-ok}
 use Rattle.laws.proofs.Answering.{Ends, ends-here, ends-entry, ends-change, ends-cancel, ends-mass, ends-daily, lines-ok, spare-from}
-
--- the floor between steps
-abbrev pub floor : State → Floor
-floor s = floor-of (s .queues) (s .reel) (clock-of (s .day))
 
 at-rest : (g : Floor) → g .hand ≡ None → g ≡ floor-of (g .queues) (g .reel) (g .clock)
 at-rest g e = ap (λ (h : Option Order). with-hand h) e
@@ -144,3 +141,10 @@ upheld form s day stamp q limit forms e =
     next : (s : State) (t : Tally) → Calm (floor s) × Matches t (floor s) → Lawful (step form s) × Fair-lines (request form) (written s (step form s)) t
     next s t h = let k = ends-step form s t (h .0) (h .1) in
         (lawful-calm (step form s) (k .calm), subst (λ l. Fair-lines (request form) l t) (sym (written-is s (step form s) (k .said) (k .tape-grew))) (k .fair))
+
+pub always-smooth : Always-smooth
+always-smooth day stamp q limit forms form =
+    let z : State = set-up day stamp q limit in
+    let t : Tally = starting (at-least-1 stamp) in
+    let h = calm-after forms z t (calm-set-up day stamp q limit) (match-set-up day stamp q limit) in
+    ends-step form (after forms z) (tally-after forms z t) (h .0) (h .1) .course

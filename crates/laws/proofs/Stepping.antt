@@ -23,7 +23,9 @@ use Rattle.matching.specs.Entering.{arrival, enter}
 use Rattle.matching.specs.Changing.{loses-turn, amended, recalled, change-at}
 use Rattle.laws.specs.Tally.{Tally, Request, entry, change, noted, at-ease}
 use Rattle.laws.proofs.Events.{Fits}
-use Rattle.laws.proofs.Tapes.{lines, tape, Roomy}
+use Rattle.laws.specs.Smooth.{lines, Course, ended, then}
+use Rattle.laws.proofs.Courses.{smooth, settled-course, well-arrival}
+use Rattle.laws.proofs.Tapes.{tape, Roomy}
 use Rattle.laws.proofs.Following.{Sane, sane-happen, Calm, calm-settled}
 use Rattle.laws.proofs.Tallies.{Matches}
 use Rattle.laws.proofs.Arriving.{Proper, fits-arrival, untraded-arrival, match-arrival}
@@ -35,12 +37,13 @@ use Rattle.laws.proofs.Sweeping.{Swept}
 pub record Goes (q : Request) (t : Tally) (f g : Floor) : Type 0 where
   pub calm : Calm g
   pub told : Tells q t f g
+  pub course : Course f g
 
 pub goes-here : (q : Request) (t : Tally) (f : Floor) → Calm f → Matches t f → Goes q t f f
-goes-here q t f c m = record { calm = c; told = tells-here q t f (with-match f t m) }
+goes-here q t f c m = record { calm = c; told = tells-here q t f (with-match f t m); course = ended }
 
 pub goes-swept : (q : Request) (t : Tally) (f g : Floor) → Swept q t f g → Goes q t f g
-goes-swept q t f g s = record { calm = s .calm; told = record { said = s .said; tape-grew = s .tape-grew; fair = s .fair; with-it = with-match g (noted q (s .said) t) (s .matches) } }
+goes-swept q t f g s = record { calm = s .calm; told = record { said = s .said; tape-grew = s .tape-grew; fair = s .fair; with-it = with-match g (noted q (s .said) t) (s .matches) }; course = s .course }
 
 pub goes-enter : (a : Asked) (f : Floor) (t : Tally) → Proper a → Supplied f → Calm f → Matches t f → Goes (entry a) t f (enter a f)
 goes-enter a f t p s c m =
@@ -55,6 +58,7 @@ goes-enter a f t p s c m =
       calm = calm-settled (happen e f) sane enough;
       told = tells-then (entry a) t e f (settled (happen e f)) room (untraded-arrival a (f .clock .stamp) (f .queues) t)
           (tells-settled (entry a) t′ (happen e f) sane enough (with-match (happen e f) t′ (match-arrival a f t p c m room)));
+      course = then e (smooth e f room (well-arrival a f c)) (settled-course (happen e f) sane enough);
     }
 
 -- a rewrite leaves the stops alone
@@ -75,6 +79,7 @@ goes-change c i o f t there p s k m =
       calm = calm-settled (happen away f) sane enough;
       told = tells-then (change c) t away f (settled (happen away f)) room (tt, tt)
           (tells-settled (change c) t′ (happen away f) sane enough (with-match (happen away f) t′ (match-recalls c i o f p k t m (o .side) there l room)));
+      course = then away (smooth away f room tt) (settled-course (happen away f) sane enough);
     })
     (λ l. let fit = fits-amends c i o f there p l k in
     let room : Roomy here f = record { free-lines = omega (arith, s .free-lines); free-stamps = λ z. absurd (omega arith) } in
@@ -82,4 +87,5 @@ goes-change c i o f t there p s k m =
     record {
       calm = record { sane = sane-happen here f fit room (k .sane); idle = k .idle; unripe = same-stops (f .clock .last) i (amended c o) (f .queues) (k .unripe) };
       told = tells-then (change c) t here f (happen here f) room (tt, tt) (tells-here (change c) t′ (happen here f) (with-match (happen here f) t′ (match-amends c i o f p k t m there l room)));
+      course = then here (smooth here f room tt) ended;
     })

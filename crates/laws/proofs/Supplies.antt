@@ -33,7 +33,8 @@ use Rattle.matching.proofs.Parts.{parts-most}
 use Rattle.venue.specs.Rooms.{records, needed}
 use Rattle.laws.proofs.Lists.{total-removed, length-put-in}
 use Rattle.laws.proofs.Events.{Fits}
-use Rattle.laws.proofs.Tapes.{lines, stamps, tape, Roomy, tape-is, stamp-is, limit-is}
+use Rattle.laws.specs.Smooth.{lines, stamps}
+use Rattle.laws.proofs.Tapes.{tape, Roomy, tape-is, stamp-is, limit-is}
 use Rattle.laws.proofs.Following.{Enough}
 
 pub record Supplied (f : Floor) : Type 0 where

@@ -33,7 +33,9 @@ use Rattle.laws.specs.Fair.{Fair-lines}
 use Rattle.laws.proofs.Lists.{length-taken, all-removed}
 use Rattle.laws.proofs.Queues.{at-with}
 use Rattle.laws.proofs.Events.{Fits, Lies}
-use Rattle.laws.proofs.Tapes.{lines, tape, Roomy, tape-is, limit-is}
+use Rattle.laws.specs.Smooth.{lines, Course, ended, then}
+use Rattle.laws.proofs.Courses.{course-++, smooth}
+use Rattle.laws.proofs.Tapes.{tape, Roomy, tape-is, limit-is}
 use Rattle.laws.proofs.Following.{Sane, sane-happen, Calm}
 use Rattle.laws.proofs.Tallies.{Matches, match-pulls, match-idle}
 use Rattle.laws.proofs.Telling.{noted-++, fair-++, Tells, with-match}
@@ -75,9 +77,10 @@ pub record Swept (q : Request) (t : Tally) (f g : Floor) : Type 0 where
   pub fair : Fair-lines q said t
   pub matches : Matches (noted q said t) g
   pub spare : Spare g
+  pub course : Course f g
 
 pub swept-here : (q : Request) (t : Tally) (f : Floor) → Calm f → Spare f → Matches t f → Swept q t f f
-swept-here q t f c s m = record { calm = c; said = []; tape-grew = refl; fair = tt; matches = m; spare = s }
+swept-here q t f c s m = record { calm = c; said = []; tape-grew = refl; fair = tt; matches = m; spare = s; course = ended }
 
 swept-then : (q : Request) (t : Tally) (f g h : Floor) → (a : Swept q t f g) → Swept q (noted q (a .said) t) g h → Swept q t f h
 swept-then q t f g h a b = record {
@@ -87,6 +90,7 @@ swept-then q t f g h a b = record {
   fair = fair-++ q (b .said) (a .said) t (a .fair) (b .fair);
   matches = rw (noted-++ q (b .said) (a .said) t) (b .matches);
   spare = b .spare;
+  course = course-++ (a .course) (b .course);
 }
 
 pub one-pull : (q : Request) (c : Cause) (n : Queue) (i : ℕ) (r : Record) (f : Floor) (t : Tally) → Lies n i r (f .queues) → Calm f → Spare f → Matches t f → Swept q t f (happen (pulls c n i r) f)
@@ -103,6 +107,7 @@ one-pull q c n i r f t l k s m =
       fair = (tt, tt);
       matches = match-pulls c n i r f fit (k .sane) t m;
       spare = omega (arith, limit-is e f);
+      course = then e (smooth e f room tt) ended;
     }
 
 sweep-swept : (q : Request) (k : ℕ) (p : Pick) (c : Cause) (n : Queue) (i : ℕ) (f : Floor) (t : Tally) → Calm f → Spare f → Matches t f → Swept q t f (sweep k p c n i f)

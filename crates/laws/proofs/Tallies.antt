@@ -27,7 +27,8 @@ use Rattle.laws.proofs.Queues.{Good}
 use Rattle.laws.proofs.Sums.{Measure, queued, of-hand, over, everywhere, over-le, over-plus, over-agree, one-of}
 use Rattle.laws.proofs.Rows.{Shows, renewed-row, lowered-row}
 use Rattle.laws.proofs.Events.{Fits, of-fate, going, coming, rest-queues, resting, taken-up, put-down, Single, one-itself, Ready, place}
-use Rattle.laws.proofs.Tapes.{fate-draws, stamps, Roomy, stamp-is}
+use Rattle.laws.specs.Smooth.{fate-draws, stamps}
+use Rattle.laws.proofs.Tapes.{Roomy, stamp-is}
 use Rattle.laws.proofs.Counts.{Counts, by-number, rest-other}
 use Rattle.laws.proofs.Following.{Sane}
 

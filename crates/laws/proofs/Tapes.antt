@@ -17,39 +17,8 @@ use Rattle.tapes.specs.declared.cause.Cause.the-variants.{NoOpposite}
 use Rattle.tapes.specs.Reels.{Reel, written}
 use Rattle.matching.specs.declared.clock.Clock.{Clock}
 use Rattle.matching.specs.Clocks.{later, drawn}
+use Rattle.laws.specs.Smooth.{lines, fate-draws, stamps}
 use Rattle.matching.specs.Model.{Floor, Event, enters, parks, bounces, misses, drops, trades, stays, fires, pulls, amends, recalls, Fate, gone, again, kept, fate, deal, drawn-by, happen, line-A, line-R, line-S, line-C, line-T}
-
--- the lines of an event, the latest first
-abbrev pub lines : Event → List Line
-lines (enters o) = line-A o ∷ []
-lines (parks x) = line-A (x .order) ∷ []
-lines (bounces c o) = line-C c o ∷ line-A o ∷ []
-lines (misses n k) = Cancelled n None k NoOpposite ∷ Entered n None k ∷ []
-lines (drops c o) = line-C c o ∷ []
-lines (trades o r) = line-T (deal o r) o r ∷ []
-lines (stays o) = []
-lines (fires s x) = line-S (x .order) ∷ []
-lines (pulls c n i r) = line-C c (order-of-record r) ∷ []
-lines (amends i o) = line-R o ∷ []
-lines (recalls s i o) = line-R o ∷ []
-
-abbrev pub fate-draws : Fate → ℕ
-fate-draws gone = 0
-fate-draws again = 1
-fate-draws kept = 0
-
-abbrev pub stamps : Event → ℕ
-stamps (enters o) = 1
-stamps (parks x) = 1
-stamps (bounces c o) = 1
-stamps (misses n k) = 1
-stamps (drops c o) = 0
-stamps (trades o r) = fate-draws (fate (deal o r) r)
-stamps (stays o) = 0
-stamps (fires s x) = 1
-stamps (pulls c n i r) = 0
-stamps (amends i o) = 0
-stamps (recalls s i o) = 1
 
 abbrev pub tape : Floor → List Line
 tape f = f .reel .lines

@@ -10,7 +10,8 @@ use Rattle.matching.specs.Model.{Floor, Event, enters, parks, bounces, misses, 
 use Rattle.matching.specs.Next.{settled}
 use Rattle.laws.specs.Tally.{Tally, Request, at-ease, note, noted}
 use Rattle.laws.specs.Fair.{Fair-lines}
-use Rattle.laws.proofs.Tapes.{lines, tape, Roomy, tape-is}
+use Rattle.laws.specs.Smooth.{lines}
+use Rattle.laws.proofs.Tapes.{tape, Roomy, tape-is}
 use Rattle.laws.proofs.Following.{Sane, sane-happen, Next, Leads, at-end, then, Enough, settled-leads}
 use Rattle.laws.proofs.Tallies.{Matches, match-trades, match-drops, match-fires, match-stays, match-idle}
 use Rattle.laws.proofs.Fairness.{fair-trades}

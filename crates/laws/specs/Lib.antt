@@ -4,3 +4,4 @@ pub mod Tally
 pub mod Fair
 pub mod Runs
 pub mod Teeth
+pub mod Smooth
