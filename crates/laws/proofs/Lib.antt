@@ -20,3 +20,4 @@ pub mod Reading
 pub mod Answering
 pub mod Running
 pub mod Broken
+pub mod Asking
