@@ -54,7 +54,7 @@ pub record Proper (a : Asked) : Type 0 where
   pub low : Kind-low (a .kind)
 
 arrives : (a : Asked) (price : Price) (f : Floor) → Proper a → Low price → f .hand ≡ None → Arrives (order-from a price (f .clock .stamp)) f
-arrives a price f p l h = record { idle = h; new = refl; whole = refl; low = l; shows = entered-shows a price (f .clock .stamp) (p .allowed) }
+arrives a price f p l h = record { idle = h; new = refl; turn = refl; whole = refl; low = l; shows = entered-shows a price (f .clock .stamp) (p .allowed) }
 
 fits-judged : (a : Asked) (o : Order) (f : Floor) → Arrives o f → Fits (judged a o (f .queues)) f
 fits-judged a o f h = cond-both (short a o (f .queues)) (bounces ShortReach o) (enters o) (λ e. Fits e f) (λ _. h) (λ _. h)

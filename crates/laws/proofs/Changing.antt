@@ -96,6 +96,7 @@ fits-recalls c s i o f e p k =
     let z = recalled-row (f .clock .stamp) c o p in (
       record { idle = k .idle; was = o; there = e; changes = changes-recalled (f .clock .stamp) c o p },
       ap (λ (r : OrderRow). r .shown) z ∙ sym (ap (λ (r : OrderRow). showing (r .disclosed) (r .leaves)) z),
+      refl,
     )
 
 pub fits-amends : (c : Change) (i : ℕ) (o : Order) (f : Floor) → nth (at (o .side) (f .queues .stands)) i ≡ Some o → Permitted c o → loses-turn c o ≡ false → Calm f → Fits (amends i (amended c o)) f

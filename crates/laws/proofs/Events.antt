@@ -43,6 +43,7 @@ use Rattle.laws.proofs.Sums.{Measure, queued, of-hand, over, everywhere, one-o
 pub record Arrives (o : Order) (f : Floor) : Type 0 where
   pub idle : f .hand ≡ None
   pub new : o .number ≡ f .clock .stamp
+  pub turn : o .turn ≡ f .clock .stamp
   pub whole : o .leaves ≡ o .quantity
   pub low : Low (o .price)
   pub shows : Shows o
@@ -96,7 +97,7 @@ Fits (stays o) f = Stays o f
 Fits (fires s x) f = (f .hand ≡ None) × (nth (at s (f .queues .waits)) 0 ≡ Some x)
 Fits (pulls c n i r) f = (f .hand ≡ None) × Lies n i r (f .queues)
 Fits (amends i o) f = (h : Changed-at (o .side) i o f) × Same-place (h .was) o
-Fits (recalls s i o) f = Changed-at s i o f × Shows o
+Fits (recalls s i o) f = Changed-at s i o f × Shows o × (o .turn ≡ f .clock .stamp)
 
 -- what goes with an event, and what comes
 

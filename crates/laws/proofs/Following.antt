@@ -37,16 +37,19 @@ use Rattle.laws.proofs.Queues.{Good, Sided, Stop-sided, Beyond, beyond-first, 
 use Rattle.laws.proofs.Events.{Fits, Ready, good-happen, ready-happen, Lies}
 use Rattle.laws.specs.Smooth.{lines, stamps, fate-draws}
 use Rattle.laws.proofs.Tapes.{tape, Roomy, tape-is, stamp-is, limit-is}
+use Rattle.laws.proofs.Sums.{everywhere}
 use Rattle.laws.proofs.Counts.{Counts, counts-happen}
+use Rattle.laws.proofs.Turning.{late, early-happen}
 
 -- what holds of a floor at all times
 pub record Sane (f : Floor) : Type 0 where
   pub good : Good (f .queues)
   pub counts : Counts f
   pub ready : Ready (f .hand)
+  pub early : everywhere (late (f .clock .stamp)) f ≡ 0
 
 pub sane-happen : (e : Event) (f : Floor) → Fits e f → Roomy e f → Sane f → Sane (happen e f)
-sane-happen e f h r s = record { good = good-happen e f h (s .good) (s .counts .single) (s .ready); counts = counts-happen e f h r (s .good) (s .counts); ready = ready-happen e f h (s .good) (s .ready) }
+sane-happen e f h r s = record { good = good-happen e f h (s .good) (s .counts .single) (s .ready); counts = counts-happen e f h r (s .good) (s .counts); ready = ready-happen e f h (s .good) (s .ready); early = early-happen e f h r (s .good) (s .counts .single) (s .early) }
 
 -- the events that follow by themselves
 abbrev pub Follows : Event → Type 0

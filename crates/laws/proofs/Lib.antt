@@ -5,6 +5,7 @@ pub mod Rows
 pub mod Events
 pub mod Tapes
 pub mod Counts
+pub mod Turning
 pub mod Following
 pub mod Courses
 pub mod Tallies

@@ -118,6 +118,7 @@ calm-set-up day stamp q limit = record {
     };
     counts = record { accounts = λ n. refl; unborn = λ n _. refl; single = λ n. omega arith; known = refl };
     ready = tt;
+    early = refl;
   };
   idle = refl;
   unripe = elim [ Buy ↦ tt | Sell ↦ tt ];
