@@ -78,7 +78,7 @@ price-same p q e = ap (λ n. as-price n) e
     as-price : ℕ → Price
     as-price n = record { hundredths = n }
 
-better-itself : (s : Side) (p : Price) → better s p p ≡ false
+pub better-itself : (s : Side) (p : Price) → better s p p ≡ false
 better-itself Buy p = le-ltb (level p) (level p) (omega arith)
 better-itself Sell p = le-ltb (level p) (level p) (omega arith)
 
@@ -149,7 +149,7 @@ no-better-key : (s : Side) (p q : Price) → Low p → Low q → order-key s p �
 no-better-key Buy p q lp lq h = le-ltb (level p) (level q) (omega arith)
 no-better-key Sell p q lp lq h = le-ltb (level q) (level p) (omega arith)
 
-none-better : (s : Side) (r : Order) (l : List Order) → Sided s r → All (Sided s) l → All (λ y. before (rank-of y) (rank-of r) ≡ false) l → All (λ (x : Order). better s (x .price) (r .price) ≡ false) l
+pub none-better : (s : Side) (r : Order) (l : List Order) → Sided s r → All (Sided s) l → All (λ y. before (rank-of y) (rank-of r) ≡ false) l → All (λ (x : Order). better s (x .price) (r .price) ≡ false) l
 none-better s r [] dr d h = tt
 none-better s r (x ∷ l) dr d h =
     let k : order-key (r .side) (r .price) ≤ order-key (x .side) (x .price) = ranks-lower (rank-of r) (rank-of x) (h .0) in (

@@ -22,3 +22,4 @@ pub mod Answering
 pub mod Running
 pub mod Broken
 pub mod Asking
+pub mod Reaches

@@ -5,3 +5,4 @@ pub mod Fair
 pub mod Runs
 pub mod Teeth
 pub mod Smooth
+pub mod Reaching
