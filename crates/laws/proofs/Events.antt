@@ -217,7 +217,7 @@ pub rest-side : (o r : Order) (f : Floor) → Trades o r f → Good (f .queues) 
 rest-side o r f h g = all-nth (Sided (other (o .side))) (at (other (o .side)) (f .queues .stands)) 0 r (h .first) (g .sided (other (o .side)))
 
 -- the queues after each fate
-abbrev after-fate : Fate → (lots stamp : ℕ) → Order → Queues → Queues
+abbrev pub after-fate : Fate → (lots stamp : ℕ) → Order → Queues → Queues
 after-fate gone lots stamp r q = taken (Orders (r .side)) 0 q
 after-fate again lots stamp r q = placed (Standing (renewed stamp lots r)) (taken (Orders (r .side)) 0 q)
 after-fate kept lots stamp r q = record-set 0 (Standing (lowered lots r)) q

@@ -23,3 +23,4 @@ pub mod Running
 pub mod Broken
 pub mod Asking
 pub mod Reaches
+pub mod Filling

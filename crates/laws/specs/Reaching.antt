@@ -41,3 +41,14 @@ Reach-means =
     (let s : State = after forms (set-up day stamp q limit) in
     total parts (at (other (o .side)) (s .queues .stands)) ≤ trades →
     reach o (at (other (o .side)) (s .queues .stands)) ≡ endless trades (clock-of (s .day) .stamp) o (at (other (o .side)) (s .queues .stands)))
+
+-- so an entry that wants all trades whole or not at all, and one with a minimum trades at least that or not at all
+abbrev pub Filled : Asked → (lots : ℕ) → Type 0
+Filled a lots = (all-or-none (a .validity) ≡ true → (lots ≡ 0) ⊎ (lots ≡ a .quantity)) × ((lots ≡ 0) ⊎ (a .minimum ≤ lots))
+
+-- an accepted entry draws the next stamp for its number; its lots on the trade lines of its step
+abbrev pub Always-filled : Type 0
+Always-filled =
+    (day stamp : ℕ) (q : Queues) (limit : ℕ) (forms : List Form) (form : EntryForm) (a : Asked) →
+    (let s : State = after forms (set-up day stamp q limit) in
+    read-entry form ≡ Ok a → answer (Entry form) s ≡ Ok tt → Filled a (total (traded-lots (clock-of (s .day) .stamp)) (step (Entry form) s .reel .lines)))
