@@ -129,10 +129,10 @@ known-ok firm number q = go (found number q)
 
 -- entry
 
-abbrev Entry-given : EntryForm → Floor → Asked → Type 0
+abbrev pub Entry-given : EntryForm → Floor → Asked → Type 0
 Entry-given form f a = Proper a × Supplied f × (read-entry form ≡ Ok a)
 
-entry-given : (form : EntryForm) (f : Floor) → In-ok (Entry-given form f) (entry-told form f)
+pub entry-given : (form : EntryForm) (f : Floor) → In-ok (Entry-given form f) (entry-told form f)
 entry-given form f =
     ok-then (λ a. Proper a × (read-entry form ≡ Ok a)) (Entry-given form f) (read-entry form) _ (with-eq Proper (read-entry form) (entry-ok form)) (λ a p.
     ok-then _ (Entry-given form f) (lines-free (f .queues) (f .reel)) _ (lines-ok f) (λ _ l.

@@ -24,3 +24,4 @@ pub mod Broken
 pub mod Asking
 pub mod Reaches
 pub mod Filling
+pub mod Fills

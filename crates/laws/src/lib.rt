@@ -1,5 +1,6 @@
 // The laws of every run, above any book: each is the contract of a function that does nothing else.
 ghost use Rattle.laws.specs.Runs.{Always-lawful, Always-fair};
+ghost use Rattle.laws.specs.Reaching.{Reach-means, Always-filled};
 ghost use Rattle.laws.specs.Smooth.{Always-smooth, Entered-as-asked, Changed-as-asked};
 ghost use Rattle.laws.specs.Teeth.{Teeth};
 
@@ -35,6 +36,14 @@ pub fn as_asked() -> u8
 // Each law can be broken: by a lost or doubled lot, by a trade out of turn, past a limit or with a stranger, by a bid at an offer's price, by a ripe stop.
 pub fn laws_bite() -> u8
     ensures { λ _. ⌜ Teeth ⌝ }
+{
+    0
+}
+
+// Reach is what an order without end would trade; so whoever wants all, or a minimum, trades that or nothing.
+pub fn reach_means() -> u8
+    ensures lots { λ _. ⌜ Reach-means ⌝ }
+    ensures filled { λ _. ⌜ Always-filled ⌝ }
 {
     0
 }
