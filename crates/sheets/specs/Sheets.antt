@@ -34,6 +34,10 @@ directory-refusal bs (Ok rows) = misplaced-row (first-misplaced Rows bs rows)
 abbrev pub sheet-refusal : List ℕ → Option Refusal
 sheet-refusal bs = directory-refusal bs (row-count bs)
 
+-- the bytes of the row behind the first k
+abbrev pub row-bytes : List ℕ → ℕ → List ℕ
+row-bytes bs k = part-at Rows bs k
+
 -- a sheet just read: its first row comes next
 pub record Begun (bs : List ℕ) (s : Sheet) : Type 0 where
   pub bytes : s .bytes .now ≡ bs
