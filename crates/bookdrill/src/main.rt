@@ -1,4 +1,9 @@
 // The strip book, the slot book, and front cards above them under the same steps: they tell the same.
+ghost use mathlib.Core.Path.{_≡_};
+ghost use Rattle.books.specs.Lanes.{empty-queues};
+ghost use Rattle.cards.specs.Cards.{card-queues};
+ghost use Rattle.slots.specs.Book.{slot-queues};
+
 mod run;
 mod steps;
 
@@ -16,11 +21,19 @@ use orders::ranked::StopRowNumbered;
 use orders::ranked::StopRowRanked;
 use orders::row::StopRow;
 use orders::side::Side;
+use slots::book::SlotBook;
 use slots::book::slot_book;
 use slots::row::SlotRowLane;
 use std::io;
 use strips::book::strip_book;
 use strips::row::RankedRowLane;
+
+// An empty slot book under a front card: it means four empty queues.
+fn slots_under_card() -> FrontCard<SlotBook>
+    ensures { λ r. ⌜ card-queues slot-queues r ≡ empty-queues 32 32 32 32 ⌝ }
+{
+    FrontCard::over(slot_book())
+}
 
 fn verdict(first: &str, text: &str) -> &'static str {
     if first == text { "same" } else { "differs" }
@@ -47,7 +60,7 @@ fn main(rt: LibcRuntime) -> io::Result<()> {
     let mut card = FrontCard::over(strip_book(&mut bids, &mut offers, &mut buys, &mut sells));
     let text = run(heap, &mut card)?;
     println!(rt, "card above strips {}", verdict(&strips, &text))?;
-    let mut card = FrontCard::over(slot_book());
+    let mut card = slots_under_card();
     let text = run(heap, &mut card)?;
     println!(rt, "card above slots {}", verdict(&strips, &text))?;
     let text = run(heap, &mut card)?;
