@@ -156,30 +156,34 @@ module _ (bs : List ℕ) where
         (λ i k. front-put bs (b .0) (digits 6 bs + 1) (omega arith) i k) (b .1);
   }
 
--- what stands behind the comma of a price
+-- what stands behind the comma of a price, where there is one
+abbrev cents : List ℕ → List ℕ
+cents bs = drop (digits 6 bs + 1) bs
+
+-- a price with its comma: the digits behind it
 module _ (bs : List ℕ) (some : 1 ≤ digits 6 bs) (comma : getD bs (digits 6 bs) 0 ≡ 44) where
   there : digits 6 bs < length bs
   there = ⊎-elim (λ less. less)
       (λ more. absurd (let e = getD-past bs (digits 6 bs) 0 more in let z : _≡_ {A = ℕ} 44 0 = sym comma ∙ e in omega arith))
       (cases-lt (digits 6 bs) (length bs))
 
-  length-cents : length (drop (digits 6 bs + 1) bs) ≡ length bs - (digits 6 bs + 1)
+  length-cents : length (cents bs) ≡ length bs - (digits 6 bs + 1)
   length-cents = length-drop (digits 6 bs + 1) bs
 
-  cent-at : (i : ℕ) → digits 6 bs < i → i < digits 6 bs + 1 + digits 2 (drop (digits 6 bs + 1) bs) → is-digit (getD bs i 0) ≡ true
+  cent-at : (i : ℕ) → digits 6 bs < i → i < digits 6 bs + 1 + digits 2 (cents bs) → is-digit (getD bs i 0) ≡ true
   cent-at i l h =
       let n = digits 6 bs in
       let e : n + 1 + (i - (n + 1)) ≡ i = omega arith in
       ap (λ k. is-digit (getD bs k 0)) (sym e) ∙ ap is-digit (sym (getD-drop (n + 1) bs (i - (n + 1)) 0))
-      ∙ digit-at 2 (drop (n + 1) bs) (i - (n + 1)) (omega arith)
+      ∙ digit-at 2 (cents bs) (i - (n + 1)) (omega arith)
 
-  begins-cents : Begins Good-price (take (digits 6 bs + 1 + digits 2 (drop (digits 6 bs + 1) bs)) bs)
+  begins-cents : Begins Good-price (take (digits 6 bs + 1 + digits 2 (cents bs)) bs)
   begins-cents =
       let n = digits 6 bs in
-      let m = digits 2 (drop (n + 1) bs) in
+      let m = digits 2 (cents bs) in
       let rest : List ℕ = replicate (2 - m) 48 in
-      let two : m ≤ 2 = within-most 2 (drop (n + 1) bs) in
-      let w : n + 1 + m ≤ length bs = omega (arith, within-cell 2 (drop (n + 1) bs), length-cents, there) in
+      let two : m ≤ 2 = within-most 2 (cents bs) in
+      let w : n + 1 + m ≤ length bs = omega (arith, within-cell 2 (cents bs), length-cents, there) in
       let l : length (take (n + 1 + m) bs ++ rest) ≡ n + 3 =
       omega (arith, length-put bs rest (n + 1 + m) w, length-replicate {A = ℕ} (2 - m) 48) in (
         rest,
@@ -197,31 +201,31 @@ module _ (bs : List ℕ) (some : 1 ≤ digits 6 bs) (comma : getD bs (digits 6 b
         },
       )
 
-  wrong-cents : digits 2 (drop (digits 6 bs + 1) bs) < 2
-      → digits 6 bs + 1 + digits 2 (drop (digits 6 bs + 1) bs) < length bs
-      → (xs : List ℕ) → ((i : ℕ) → i < digits 6 bs + 1 + digits 2 (drop (digits 6 bs + 1) bs) + 1 → getD xs i 0 ≡ getD bs i 0)
+  wrong-cents : digits 2 (cents bs) < 2
+      → digits 6 bs + 1 + digits 2 (cents bs) < length bs
+      → (xs : List ℕ) → ((i : ℕ) → i < digits 6 bs + 1 + digits 2 (cents bs) + 1 → getD xs i 0 ≡ getD bs i 0)
       → digits 6 bs < length xs → Good-price xs → ⊥
   wrong-cents few h xs same long g =
       let n = digits 6 bs in
-      let m = digits 2 (drop (n + 1) bs) in
+      let m = digits 2 (cents bs) in
       let e : n ≡ g .whole = at-comma xs g n long (same n (omega arith) ∙ comma) in
       clash (is-digit (getD bs (n + 1 + m) 0))
       (ap is-digit (sym (same (n + 1 + m) (omega arith))) ∙ g .digits (n + 1 + m) (omega (arith, g .long)) (λ k. omega arith))
-      (ap is-digit (sym (getD-drop (n + 1) bs m 0)) ∙ stops-at 2 (drop (n + 1) bs) few (omega (arith, length-cents)))
+      (ap is-digit (sym (getD-drop (n + 1) bs m 0)) ∙ stops-at 2 (cents bs) few (omega (arith, length-cents)))
 
-  wrong-behind : (digits 2 (drop (digits 6 bs + 1) bs) ≡ 2 → length (drop (digits 6 bs + 1) bs) ≡ 2 → ⊥)
-      → First-wrong Good-price bs (digits 6 bs + 1 + digits 2 (drop (digits 6 bs + 1) bs) + 1)
+  wrong-behind : (digits 2 (cents bs) ≡ 2 → length (cents bs) ≡ 2 → ⊥)
+      → First-wrong Good-price bs (digits 6 bs + 1 + digits 2 (cents bs) + 1)
   wrong-behind ne =
       let n = digits 6 bs in
-      let m = digits 2 (drop (n + 1) bs) in
-      let two : m ≤ 2 = within-most 2 (drop (n + 1) bs) in
+      let m = digits 2 (cents bs) in
+      let two : m ≤ 2 = within-most 2 (cents bs) in
       record {
         q = n + 1 + m;
         counted = refl;
         bad = λ g.
             let e : n ≡ g .whole = at-comma bs g n there comma in
             let l : length bs ≡ n + 3 = omega (arith, g .long) in
-            let c : length (drop (n + 1) bs) ≡ 2 = omega (arith, length-cents) in
+            let c : length (cents bs) ≡ 2 = omega (arith, length-cents) in
             let less : m < 2 = ⊎-elim (λ k. absurd (ne k c)) (λ k. omega arith) (cases-eq m 2) in
             wrong-cents less (omega arith) bs (λ i h. refl) there g;
         begins = begins-cents;
@@ -233,7 +237,7 @@ module _ (bs : List ℕ) (some : 1 ≤ digits 6 bs) (comma : getD bs (digits 6 b
             wrong-cents (omega (arith, b .1 .long)) h xs same (omega arith) (b .1);
       }
 
-  good-price : digits 2 (drop (digits 6 bs + 1) bs) ≡ 2 → length (drop (digits 6 bs + 1) bs) ≡ 2 → Good-price bs
+  good-price : digits 2 (cents bs) ≡ 2 → length (cents bs) ≡ 2 → Good-price bs
   good-price e l = record {
     whole = digits 6 bs;
     some = some;
@@ -245,32 +249,28 @@ module _ (bs : List ℕ) (some : 1 ≤ digits 6 bs) (comma : getD bs (digits 6 b
   }
 
 price-told : (bs : List ℕ) → Told Good-price bs (read-price bs)
-price-told bs = by (is-blank bs) (ltb 0 n) (eqb (getD bs n 0) 44) (eqb (digits 2 rest) 2) (eqb (length rest) 2) refl refl refl refl refl
+price-told bs =
+    by (is-blank bs) (ltb 0 (digits 6 bs)) (eqb (getD bs (digits 6 bs) 0) 44)
+    (eqb (digits 2 (cents bs)) 2) (eqb (length (cents bs)) 2) refl refl refl refl refl
   where
-    n : ℕ
-    n = digits 6 bs
-
-    rest : List ℕ
-    rest = drop (digits 6 bs + 1) bs
-
     by : (t a b c d : Bool) → is-blank bs ≡ t → ltb 0 (digits 6 bs) ≡ a → eqb (getD bs (digits 6 bs) 0) 44 ≡ b
-        → eqb (digits 2 (drop (digits 6 bs + 1) bs)) 2 ≡ c → eqb (length (drop (digits 6 bs + 1) bs)) 2 ≡ d
+        → eqb (digits 2 (cents bs)) 2 ≡ c → eqb (length (cents bs)) 2 ≡ d
         → Told {A = Price} Good-price bs (cond t (Ok None) (cond (a && b)
-        (cond (c && d) (Ok (Some (record { hundredths = written 6 bs * 100 + written 2 (drop (digits 6 bs + 1) bs) })))
-        (Err (digits 6 bs + 1 + digits 2 (drop (digits 6 bs + 1) bs) + 1)))
+        (cond (c && d) (Ok (Some (record { hundredths = written 6 bs * 100 + written 2 (cents bs) })))
+        (Err (digits 6 bs + 1 + digits 2 (cents bs) + 1)))
         (Err (digits 6 bs + 1))))
     by true a b c d pt pa pb pc pd = nil-from-length bs (eqb-true (length bs) 0 pt)
     by false false b c d pt pa pb pc pd = wrong-before bs (λ some k. omega (arith, ltb-false 0 (digits 6 bs) pa))
     by false true false c d pt pa pb pc pd = wrong-before bs (λ some k. eqb-false (getD bs (digits 6 bs) 0) 44 pb k)
     by false true true false d pt pa pb pc pd =
         wrong-behind bs (ltb-true 0 (digits 6 bs) pa) (eqb-true (getD bs (digits 6 bs) 0) 44 pb)
-        (λ k l. eqb-false (digits 2 (drop (digits 6 bs + 1) bs)) 2 pc k)
+        (λ k l. eqb-false (digits 2 (cents bs)) 2 pc k)
     by false true true true false pt pa pb pc pd =
         wrong-behind bs (ltb-true 0 (digits 6 bs) pa) (eqb-true (getD bs (digits 6 bs) 0) 44 pb)
-        (λ k l. eqb-false (length (drop (digits 6 bs + 1) bs)) 2 pd l)
+        (λ k l. eqb-false (length (cents bs)) 2 pd l)
     by false true true true true pt pa pb pc pd =
         good-price bs (ltb-true 0 (digits 6 bs) pa) (eqb-true (getD bs (digits 6 bs) 0) 44 pb)
-        (eqb-true (digits 2 (drop (digits 6 bs + 1) bs)) 2 pc) (eqb-true (length (drop (digits 6 bs + 1) bs)) 2 pd)
+        (eqb-true (digits 2 (cents bs)) 2 pc) (eqb-true (length (cents bs)) 2 pd)
 
 type-told : (bs : List ℕ) → Told Good-type bs (read-type bs)
 type-told [] = refl

@@ -47,5 +47,7 @@ Told Good bs (Ok None) = bs ≡ []
 Told Good bs (Ok (Some v)) = Good bs
 Told Good bs (Err place) = First-wrong Good bs place
 
+-- of every cell
 unfoldable pub Cells-told : Type 0
-Cells-told = (bs : List ℕ) → Told Good-number bs (read-number bs) × Told Good-price bs (read-price bs) × Told Good-type bs (read-type bs)
+Cells-told = (bs : List ℕ)
+    → Told Good-number bs (read-number bs) × Told Good-price bs (read-price bs) × Told Good-type bs (read-type bs)
