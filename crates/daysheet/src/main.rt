@@ -16,10 +16,10 @@ use std::error::AnyError;
 use std::io::Read;
 use tapes::tape::Tape;
 use venue::day::Day;
-use venue::setup::set_up;
 
 mod text;
 
+use laws::calls::set_up;
 use orders::ranked::OrderRowRanked;
 use orders::ranked::StopRowRanked;
 use slots::row::SlotRowLane;
@@ -63,7 +63,7 @@ fn run(rt: &LibcRuntime) -> Result<(), AnyError> {
     let mut tape = Tape::new(heap, TAPE_LINES)?;
     let mut replies = Replies::new(heap, REPLY_ROOM)?;
     let mut book = FrontCard::over(slot_book());
-    let day = Day::Open(set_up(&mut book, &mut tape, 1, 1));
+    let day = set_up(&mut book, &mut tape, 1, 1);
     let bytes = buffer.as_slice();
     match admit(&bytes[0..used.min(bytes.len())], &replies) {
         Ok(sheet) => work_rows(rt, sheet, day, &mut book, &mut tape, &mut replies),

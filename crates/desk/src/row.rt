@@ -3,6 +3,7 @@ ghost use mathlib.Core.Path.{_≡_};
 ghost use Rattle.venue.specs.Days.{state};
 ghost use Rattle.desk.specs.Desks.{desk, row-done};
 use books::book::Book;
+use laws::calls::step;
 use sheets::replies::Replies;
 use sheets::row::read_form;
 use sheets::sheet::Drawn;
@@ -21,7 +22,7 @@ pub fn work_row<B: Book>(
     let Drawn { slip, bytes } = drawn;
     match read_form(bytes) {
         Ok(form) => {
-            let (day, told) = day.step(book, tape, form);
+            let (day, told) = step(day, book, tape, form);
             slip.post(replies, told);
             day
         }

@@ -93,9 +93,10 @@ changes-amended c o p k =
 
 pub fits-recalls : (c : Change) (s : Side) (i : ℕ) (o : Order) (f : Floor) → nth (at s (f .queues .stands)) i ≡ Some o → Permitted c o → Calm f → Fits (recalls s i (recalled (f .clock .stamp) c o)) f
 fits-recalls c s i o f e p k =
-    let z = recalled-row (f .clock .stamp) c o p in
-    (record { idle = k .idle; was = o; there = e; changes = changes-recalled (f .clock .stamp) c o p },
-    ap (λ (r : OrderRow). r .shown) z ∙ sym (ap (λ (r : OrderRow). showing (r .disclosed) (r .leaves)) z))
+    let z = recalled-row (f .clock .stamp) c o p in (
+      record { idle = k .idle; was = o; there = e; changes = changes-recalled (f .clock .stamp) c o p },
+      ap (λ (r : OrderRow). r .shown) z ∙ sym (ap (λ (r : OrderRow). showing (r .disclosed) (r .leaves)) z),
+    )
 
 pub fits-amends : (c : Change) (i : ℕ) (o : Order) (f : Floor) → nth (at (o .side) (f .queues .stands)) i ≡ Some o → Permitted c o → loses-turn c o ≡ false → Calm f → Fits (amends i (amended c o)) f
 fits-amends c i o f e p l k =

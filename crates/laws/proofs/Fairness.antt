@@ -59,9 +59,11 @@ all-behind Buy o r b e l w d c = go (b .buy) d c
   where
     go : (k : List Order) → All (Sided Buy) k → All (λ (x : Order). level (x .price) < level (r .price)) k → All (λ (x : Order). before (rank-of x) (rank-of o) ≡ false) k
     go [] d h = tt
-    go (x ∷ k) d h =
-        (later-key (rank-of x) (rank-of o) (subst (λ (z : Side). order-key (o .side) (o .price) < order-key z (x .price)) (sym (d .0 .0)) (subst (λ (z : Side). order-key z (o .price) < order-key Buy (x .price)) (sym e)
-        (behind-key Buy (x .price) (o .price) (r .price) l w (λ _. h .0) (λ z. absurd (apart z))))), go k (d .1) (h .1))
+    go (x ∷ k) d h = (
+      later-key (rank-of x) (rank-of o) (subst (λ (z : Side). order-key (o .side) (o .price) < order-key z (x .price)) (sym (d .0 .0)) (subst (λ (z : Side). order-key z (o .price) < order-key Buy (x .price)) (sym e)
+          (behind-key Buy (x .price) (o .price) (r .price) l w (λ _. h .0) (λ z. absurd (apart z))))),
+      go k (d .1) (h .1),
+    )
       where
         apart : Buy ≡ Sell → ⊥
         apart z = let u : _≡_ {A = ℕ} 0 1 = cc in omega arith
@@ -69,9 +71,11 @@ all-behind Sell o r b e l w d c = go (b .sell) d c
   where
     go : (k : List Order) → All (Sided Sell) k → All (λ (x : Order). level (r .price) < level (x .price)) k → All (λ (x : Order). before (rank-of x) (rank-of o) ≡ false) k
     go [] d h = tt
-    go (x ∷ k) d h =
-        (later-key (rank-of x) (rank-of o) (subst (λ (z : Side). order-key (o .side) (o .price) < order-key z (x .price)) (sym (d .0 .0)) (subst (λ (z : Side). order-key z (o .price) < order-key Sell (x .price)) (sym e)
-        (behind-key Sell (x .price) (o .price) (r .price) l w (λ z. absurd (apart z)) (λ _. h .0)))), go k (d .1) (h .1))
+    go (x ∷ k) d h = (
+      later-key (rank-of x) (rank-of o) (subst (λ (z : Side). order-key (o .side) (o .price) < order-key z (x .price)) (sym (d .0 .0)) (subst (λ (z : Side). order-key z (o .price) < order-key Sell (x .price)) (sym e)
+          (behind-key Sell (x .price) (o .price) (r .price) l w (λ z. absurd (apart z)) (λ _. h .0)))),
+      go k (d .1) (h .1),
+    )
       where
         apart : Sell ≡ Buy → ⊥
         apart z = let u : _≡_ {A = ℕ} 0 1 = cc in omega arith
@@ -102,7 +106,7 @@ fair-trades o r f fit s t m =
     let k : outside p (row-of r) ≡ 0 = cond-true {A = ℕ} (within (r .side) p p) 0 1 (within-itself (r .side) p) in
     let named : OrderRow → Bool = λ x. eqb (x .number) (o .number) || eqb (x .number) (r .number) in
     let zero-sum : total (λ a. cond (named (a .order)) (w (a .place) (a .order)) 0) (t .accounts) ≡ 0 =
-        m .sums (λ q x. cond (named x) (w q x) 0) ∙ (two-only o r f fit s (by-row w) ∙ (let u : w incoming (row-of o) + w stands (row-of r) ≡ 0 = omega arith in u)) in
+    m .sums (λ q x. cond (named x) (w q x) 0) ∙ (two-only o r f fit s (by-row w) ∙ (let u : w incoming (row-of o) + w stands (row-of r) ≡ 0 = omega arith in u)) in
     record {
       incoming-held = omega (arith, m .sums (λ _ x. cond (eqb (x .number) (o .number)) 1 0), taken-up (one-of (o .number)) e f fit, one-itself incoming o, s .counts .single (o .number));
       resting-held = omega (arith, m .sums (λ _ x. cond (eqb (x .number) (r .number)) 1 0), taken-up (one-of (r .number)) e f fit, one-itself stands r, s .counts .single (r .number));

@@ -152,9 +152,11 @@ no-better-key Sell p q lp lq h = le-ltb (level q) (level p) (omega arith)
 none-better : (s : Side) (r : Order) (l : List Order) → Sided s r → All (Sided s) l → All (λ y. before (rank-of y) (rank-of r) ≡ false) l → All (λ (x : Order). better s (x .price) (r .price) ≡ false) l
 none-better s r [] dr d h = tt
 none-better s r (x ∷ l) dr d h =
-    let k : order-key (r .side) (r .price) ≤ order-key (x .side) (x .price) = ranks-lower (rank-of r) (rank-of x) (h .0) in
-    (no-better-key s (r .price) (x .price) (dr .1) (d .0 .1)
-    (subst (λ (z : Side). order-key s (r .price) ≤ order-key z (x .price)) (d .0 .0) (subst (λ (z : Side). order-key z (r .price) ≤ order-key (x .side) (x .price)) (dr .0) k)), none-better s r l dr (d .1) (h .1))
+    let k : order-key (r .side) (r .price) ≤ order-key (x .side) (x .price) = ranks-lower (rank-of r) (rank-of x) (h .0) in (
+      no-better-key s (r .price) (x .price) (dr .1) (d .0 .1)
+          (subst (λ (z : Side). order-key s (r .price) ≤ order-key z (x .price)) (d .0 .0) (subst (λ (z : Side). order-key z (r .price) ≤ order-key (x .side) (x .price)) (dr .0) k)),
+      none-better s r l dr (d .1) (h .1),
+    )
 
 abbrev pub first-of : List Order → Option Price
 first-of [] = None

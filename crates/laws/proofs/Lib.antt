@@ -18,4 +18,5 @@ pub mod Stepping
 pub mod Reading
 pub mod Answering
 pub mod Running
+pub mod Listing
 pub mod Broken

@@ -189,9 +189,11 @@ no-riper Buy last p p′ t n t′ n′ l l′ h k = no-better Buy last p p′ t 
 no-riper Sell last p p′ t n t′ n′ l l′ h k = no-better Sell last p p′ t n t′ n′ l l′ h k
 
 pub beyond-first : (s : Side) (limit : Price) (r : Order) (rest : List Order) → Sorted rank-of (r ∷ rest) → All (Sided (other s)) (r ∷ rest) → within s limit (r .price) ≡ false → Beyond s limit (r ∷ rest)
-beyond-first s limit r rest h d e =
-    (e, all-weaker (λ a. (before (rank-of a) (rank-of r) ≡ false) × Sided (other s) a) (λ a. within s limit (a .price) ≡ false)
-    (λ a k. no-better s limit (r .price) (a .price) (r .turn) (r .number) (a .turn) (a .number) (d .0 .1) (k .1 .1) e
-    (subst (λ z. before (record { key = order-key z (a .price); turn = a .turn; number = a .number }) (record { key = order-key (other s) (r .price); turn = r .turn; number = r .number }) ≡ false) (k .1 .0)
-    (subst (λ z. before (rank-of a) (record { key = order-key z (r .price); turn = r .turn; number = r .number }) ≡ false) (d .0 .0) (k .0)))) rest
-    (all-both (λ a. before (rank-of a) (rank-of r) ≡ false) (Sided (other s)) rest (h .0) (d .1)))
+beyond-first s limit r rest h d e = (
+  e,
+  all-weaker (λ a. (before (rank-of a) (rank-of r) ≡ false) × Sided (other s) a) (λ a. within s limit (a .price) ≡ false)
+      (λ a k. no-better s limit (r .price) (a .price) (r .turn) (r .number) (a .turn) (a .number) (d .0 .1) (k .1 .1) e
+      (subst (λ z. before (record { key = order-key z (a .price); turn = a .turn; number = a .number }) (record { key = order-key (other s) (r .price); turn = r .turn; number = r .number }) ≡ false) (k .1 .0)
+      (subst (λ z. before (rank-of a) (record { key = order-key z (r .price); turn = r .turn; number = r .number }) ≡ false) (d .0 .0) (k .0)))) rest
+      (all-both (λ a. before (rank-of a) (rank-of r) ≡ false) (Sided (other s)) rest (h .0) (d .1)),
+)

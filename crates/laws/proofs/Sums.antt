@@ -145,8 +145,12 @@ one-of n p o = counting n (o .number) 1
 
 none-found : (n : ℕ) (q : Queues) → queued (one-of n) q ≡ 0 → found n q ≡ None
 none-found n q e =
-    rw (not-found (λ (o : Order). o .number) n (q .stands .buy) (omega arith), not-found (λ (o : Order). o .number) n (q .stands .sell) (omega arith),
-    not-found (λ (x : Stop). x .order .number) n (q .waits .buy) (omega arith), not-found (λ (x : Stop). x .order .number) n (q .waits .sell) (omega arith)) refl
+    rw (
+      not-found (λ (o : Order). o .number) n (q .stands .buy) (omega arith),
+      not-found (λ (o : Order). o .number) n (q .stands .sell) (omega arith),
+      not-found (λ (x : Stop). x .order .number) n (q .waits .buy) (omega arith),
+      not-found (λ (x : Stop). x .order .number) n (q .waits .sell) (omega arith),
+    ) refl
 
 -- a put of a number that nobody has is done where there is room, and never answers twice
 pub put-new : (e : Record) (q : Queues) → queued (one-of (number-of e)) q ≡ 0 → put-answer e q ≡ cond (ltb (count (queue-of e) q) (room (queue-of e) q)) Done Full

@@ -288,7 +288,11 @@ match-stays o f fit s t m =
 
 pub match-idle : (f : Floor) (t : Tally) → f .hand ≡ None → Matches t f → Matches (at-ease t) f
 match-idle f t e m = record {
-  sums = λ g. omega (arith, total-adjust g up (t .accounts), m .sums (λ p r. of-maybe g (up (account p r))),
-      over-agree (f .queues) (f .hand) on-its-way (through up g) (by-row g) (λ p o z. ap (of-maybe g) (stays-so p o z)) (subst (λ h. over on-its-way (f .queues) h ≡ 0) (sym e) (none-on-way (f .queues))));
+  sums = λ g. omega (
+    arith,
+    total-adjust g up (t .accounts),
+    m .sums (λ p r. of-maybe g (up (account p r))),
+    over-agree (f .queues) (f .hand) on-its-way (through up g) (by-row g) (λ p o z. ap (of-maybe g) (stays-so p o z)) (subst (λ h. over on-its-way (f .queues) h ≡ 0) (sym e) (none-on-way (f .queues))),
+  );
   turns = m .turns;
 }
