@@ -2,7 +2,7 @@
 use mathlib.Core.Path.{_≡_, refl, ap, sym, subst, _∙_}
 use mathlib.Core.Bool.{Bool, true, false, cond}
 use mathlib.Core.List.{List}
-use Prim.Native.Nat.{ℕ, zero, suc, _≤_}
+use Prim.Native.Nat.{ℕ, zero, suc}
 use lib.ListN.{length, set}
 use Rattle.std.specs.shelf.Lists.{removed}
 use Rattle.std.specs.shelf.Maps.{nth}
@@ -14,9 +14,8 @@ use Rattle.orders.specs.declared.side.Side.{Side}
 use Rattle.orders.specs.declared.side.Side.the-variants.{Buy, Sell}
 use Rattle.orders.specs.declared.order.Order.{Order}
 use Rattle.orders.specs.declared.order.Stop.{Stop}
-use Rattle.orders.specs.declared.rank.Rank.{Rank}
-use Rattle.books.specs.Lists.{ranks-as, swap-fits, swapped, put-in}
-use Rattle.books.specs.Model.{Both, at, with-at, Queues, Bounded, with-stands, with-waits, count, room, look-at, found, put-answer, placed, after-put, taken, queue-of, number-of, rank-of, stop-rank-of, rewrite-fits, record-set, rewritten}
+use Rattle.books.specs.Lists.{ranks-as, swap-fits, put-in}
+use Rattle.books.specs.Model.{Both, at, with-at, Queues, Bounded, with-stands, with-waits, count, room, look-at, found, put-answer, after-put, taken, queue-of, number-of, rank-of, stop-rank-of, rewrite-fits, record-set, rewritten}
 use Rattle.books.specs.declared.queue.Queue.{Queue}
 use Rattle.books.specs.declared.queue.Queue.the-variants.{Orders, Stops}
 use Rattle.books.specs.declared.queue.Record.{Record}

@@ -1,22 +1,18 @@
 -- What becomes of the records when slots are read, written and moved.
 use mathlib.Core.Path.{_≡_, refl, ap, sym, _∙_}
-use mathlib.Core.Bool.{Bool, true, false, cond, not}
+use mathlib.Core.Bool.{Bool, true, false}
 use mathlib.Core.List.{List, [], _∷_, _++_}
 use Prim.Native.Nat.{ℕ, zero, suc, _+_, _-_, _<_, _≤_}
 use native.Mathlib.Omega.{arith}
-use native.Mathlib.Nat.{add-zero}
 use lib.ListN.{length, take, drop, set, getD}
 use mathlib.Core.Logic.{⊎-elim}
-use borrow.Rule.Slice.PartMut.{putMid, post-is}
 use Rattle.std.specs.shelf.Lists.{leading, inserted, removed}
 use Rattle.std.specs.shelf.Maps.{nth}
 use Rattle.std.specs.Options.{isSome}
 use Rattle.std.specs.declared.option.Option.{Option}
 use Rattle.std.specs.declared.option.Option.the-variants.{Some, None}
 use Rattle.std.proofs.shelf.Tests.{true≢false, false≢true, cases-lt}
-use Rattle.std.proofs.shelf.Lists.{take-more, drop-more, take-all, drop-all, length-append, length-push, append-assoc, take-append-drop, take-at, drop-at, set-at, append-nil, take-take, length-take, length-drop, getD-take, getD-drop}
-use Rattle.std.proofs.shelf.Parts.{between-is}
-use Rattle.books.proofs.Lists.{shifted}
+use Rattle.std.proofs.shelf.Lists.{take-more, drop-more, take-all, drop-all, length-append, length-push, take-append-drop, take-at, drop-at, take-take, length-take}
 use Rattle.slots.specs.Slots.{held}
 
 pub held-append : {X : Type 0} (a b : List (Option X)) → held (a ++ b) ≡ held a ++ held b

@@ -1,7 +1,6 @@
-use mathlib.Core.Path.{_≡_, refl, ap, sym, _∙_}
+use mathlib.Core.Path.{refl, ap, _∙_}
 use mathlib.Core.List.{map}
 use lib.ListN.{set}
-use Rattle.orders.specs.Ranks.{same-rank}
 use Rattle.std.proofs.shelf.Lists.{map-set}
 use Rattle.books.proofs.Mapped.{swap-some, swap-none}
 use Rattle.books.proofs.kept.swap_item.Needs as need

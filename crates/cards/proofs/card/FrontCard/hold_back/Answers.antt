@@ -1,4 +1,4 @@
-use mathlib.Core.Path.{_≡_, refl, ap, _∙_}
+use mathlib.Core.Path.{refl, ap, _∙_}
 use Rattle.cards.specs.Cards.{held-by}
 use Rattle.cards.proofs.Covered.{fit-seen, fits-same, held-back, refused}
 use Rattle.cards.proofs.card.FrontCard.hold_back.Needs as need
