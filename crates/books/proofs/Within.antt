@@ -1,9 +1,8 @@
 -- A book of four lanes keeps the bounds that its lanes keep.
 use mathlib.Core.List.{map}
-use Prim.Native.Nat.{ℕ, _≤_}
+use Prim.Native.Nat.{_≤_}
 use lib.ListN.{length}
 use Rattle.std.proofs.shelf.Lists.{length-map}
-use Rattle.orders.specs.declared.side.Side.{Side}
 use Rattle.orders.specs.declared.side.Side.the-variants.{Buy, Sell}
 use Rattle.orders.specs.Rows.{order-of, stop-of}
 use Rattle.orders.specs.declared.row.OrderRow.{OrderRow}
@@ -11,7 +10,7 @@ use Rattle.orders.specs.declared.row.StopRow.{StopRow}
 use Rattle.books.specs.declared.lanes.Lanes.{Lanes}
 use Rattle.books.specs.declared.queue.Queue.{Queue}
 use Rattle.books.specs.declared.queue.Queue.the-variants.{Orders, Stops}
-use Rattle.books.specs.Model.{Queues, Bounded, count, room}
+use Rattle.books.specs.Model.{Bounded, count, room}
 use Rattle.books.specs.Runs.{Run}
 use Rattle.books.specs.Lanes.{lanes-queues}
 

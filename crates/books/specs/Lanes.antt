@@ -5,7 +5,7 @@ use Rattle.orders.specs.Rows.{order-of, stop-of}
 use Rattle.orders.specs.declared.row.OrderRow.{OrderRow}
 use Rattle.orders.specs.declared.row.StopRow.{StopRow}
 use Rattle.books.specs.declared.lanes.Lanes.{Lanes}
-use Rattle.books.specs.Model.{Both, Queues}
+use Rattle.books.specs.Model.{Queues}
 use Rattle.books.specs.Runs.{Run}
 
 -- by what a lane of orders and a lane of stops mean

@@ -1,21 +1,19 @@
 -- A held record over a queue's first one.
 use mathlib.Core.Path.{_≡_, refl, ap, sym, _∙_}
-use mathlib.Core.Bool.{Bool, true, false, cond, not}
-use mathlib.Core.List.{List, [], _∷_, _++_}
-use Prim.Native.Nat.{ℕ, zero, suc, _+_, _<_}
+use mathlib.Core.Bool.{Bool, true, false, cond}
+use mathlib.Core.List.{List, [], _∷_}
+use Prim.Native.Nat.{ℕ, zero, suc}
 use native.Mathlib.Omega.{arith}
-use lib.ListN.{length, take, drop, set}
-use lib.Dec.{eqb, ltb}
-use Rattle.std.specs.shelf.Lists.{leading, removed}
+use lib.ListN.{length, set}
+use Rattle.std.specs.shelf.Lists.{removed}
 use Rattle.std.specs.shelf.Maps.{nth}
 use Rattle.std.specs.declared.option.Option.{Option}
 use Rattle.std.specs.declared.option.Option.the-variants.{Some, None}
 use Rattle.std.proofs.shelf.Ways.{tells}
 use Rattle.std.proofs.shelf.Tests.{cond-true, false≢true}
-use Rattle.std.proofs.shelf.Lists.{length-set}
 use Rattle.orders.specs.declared.rank.Rank.{Rank}
 use Rattle.orders.specs.Ranks.{same-rank}
-use Rattle.books.specs.Lists.{first-number, number-at, swap-fits, swapped, ranks-as}
+use Rattle.books.specs.Lists.{first-number, swap-fits}
 use Rattle.cards.specs.Held.{over, over-first}
 
 pub rank-same : (a b : Rank) → same-rank a b ≡ true → a ≡ b

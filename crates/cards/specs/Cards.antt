@@ -1,7 +1,7 @@
 -- What a front card means: the queues of the book below, with the held records for first ones of their number and rank.
 use Rattle.std.specs.Options.{mapped}
 use Rattle.orders.specs.Rows.{order-of, stop-of}
-use Rattle.books.specs.Model.{Both, Queues}
+use Rattle.books.specs.Model.{Queues}
 use Rattle.cards.specs.declared.card.FrontCard.{FrontCard}
 use Rattle.cards.specs.Held.{Held, covered}
 

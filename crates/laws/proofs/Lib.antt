@@ -20,6 +20,7 @@ pub mod Stepping
 pub mod Reading
 pub mod Answering
 pub mod Running
+pub mod Listing
 pub mod Broken
 pub mod Asking
 pub mod Reaches

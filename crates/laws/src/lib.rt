@@ -1,4 +1,7 @@
 // The laws of every run, above any book: each is the contract of a function that does nothing else.
+pub mod calls;
+pub mod days;
+
 ghost use Rattle.laws.specs.Runs.{Always-lawful, Always-fair};
 ghost use Rattle.laws.specs.Reaching.{Reach-means, Always-filled};
 ghost use Rattle.laws.specs.Smooth.{Always-smooth, Entered-as-asked, Changed-as-asked};

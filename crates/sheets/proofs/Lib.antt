@@ -1,5 +1,7 @@
 mod Apart
 mod Breaking
 mod Digits
+mod Fronts
 mod Inside
+mod Places
 mod Walks

@@ -24,6 +24,7 @@ digits most bs = leading is-digit (take most bs)
 abbrev pub written : ℕ → List ℕ → ℕ
 written most bs = value 10 (take (digits most bs) bs)
 
+-- length 0
 abbrev pub is-blank : List ℕ → Bool
 is-blank bs = eqb (length bs) 0
 

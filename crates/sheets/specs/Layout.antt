@@ -19,23 +19,27 @@ word bs i = getD bs i 0 * 256 + getD bs (i + 1) 0
 abbrev pub part : List ℕ → ℕ → ℕ → List ℕ
 part bs offset len = take len (drop offset bs)
 
--- a sheet's pairs follow its count, two bytes a number; a row's follow its letter and count, one byte a number
+-- where the part of pair k, from 0, starts: a sheet's pairs follow its count, two bytes a number; a row's follow its letter
+-- and count, one byte a number
 abbrev pub offset-at : Directory → List ℕ → ℕ → ℕ
 offset-at Rows bs k = word bs (4 * k + 2)
 offset-at Cells bs k = getD bs (2 * k + 2) 0
 
+-- how long it is
 abbrev pub length-at : Directory → List ℕ → ℕ → ℕ
 length-at Rows bs k = word bs (4 * k + 4)
 length-at Cells bs k = getD bs (2 * k + 3) 0
 
+-- where a directory of `count` pairs ends
 abbrev pub directory-end : Directory → ℕ → ℕ
 directory-end Rows count = 4 * count + 2
 directory-end Cells count = 2 * count + 2
 
--- exactly the bytes that pair k names
+-- the part: exactly the bytes that pair k names
 abbrev pub part-at : Directory → List ℕ → ℕ → List ℕ
 part-at d bs k = part bs (offset-at d bs k) (length-at d bs k)
 
+-- where it ends
 abbrev pub ends-at : Directory → List ℕ → ℕ → ℕ
 ends-at d bs k = offset-at d bs k + length-at d bs k
 

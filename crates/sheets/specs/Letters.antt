@@ -17,6 +17,7 @@ letter-of b =
     (cond (eqb b 90) (Some Closing)
     (cond (eqb b 79) (Some Opening) None)))))
 
+-- how many cells a row of the letter has
 abbrev pub cells-of : Letter → ℕ
 cells-of Entry = 12
 cells-of Change = 7

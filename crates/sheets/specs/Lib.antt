@@ -3,6 +3,7 @@ pub mod Cells
 pub mod Layout
 pub mod Letters
 pub mod Pairs
+pub mod Places
 pub mod Replies
 pub mod Rows
 pub mod Sheets

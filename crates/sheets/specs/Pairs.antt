@@ -20,5 +20,6 @@ First-breaking d bs n None = (k : ℕ) → k < n → Keeps d bs n k
 First-breaking d bs n (Some r) =
     (k : ℕ) × (k + 1 ≡ r) × (k < n) × (Keeps d bs n k → ⊥) × ((j : ℕ) → j < k → Keeps d bs n j)
 
+-- of sheets and of rows alike
 unfoldable pub Pair-rule : Type 0
 Pair-rule = (d : Directory) (bs : List ℕ) (n : ℕ) → First-breaking d bs n (first-misplaced d bs n)

@@ -35,6 +35,7 @@ abbrev pub in-cell : {A : Type 0} → ℕ → Result A ℕ → Result A Refusal
 in-cell k (Ok x) = Ok x
 in-cell k (Err p) = Err (Unreadable (k + 1) p)
 
+-- the three kinds of cell, each from the bytes that pair k names and no other
 abbrev pub number-cell : List ℕ → ℕ → Result (Option ℕ) Refusal
 number-cell row k = in-cell k (read-number (part-at Cells row k))
 
@@ -44,6 +45,7 @@ price-cell row k = in-cell k (read-price (part-at Cells row k))
 abbrev pub type-cell : List ℕ → ℕ → Result (Option ℕ) Refusal
 type-cell row k = in-cell k (read-type (part-at Cells row k))
 
+-- the cells of each letter, in their order
 abbrev pub read-entry : List ℕ → Result EntryForm Refusal
 read-entry row =
     and-then (number-cell row 0) (λ firm.
@@ -118,6 +120,7 @@ read-cells MassCancel row = and-then (read-mass-cancel row) (λ f. Ok (form.the-
 read-cells Closing row = Ok form.the-variants.Closing
 read-cells Opening row = and-then (read-opening row) (λ f. Ok (form.the-variants.Opening f))
 
+-- the refusal for the first cell that is misplaced
 abbrev pub misplaced-cell : Option ℕ → Result (Unit {0}) Refusal
 misplaced-cell None = Ok tt
 misplaced-cell (Some cell) = Err (CellMisplaced cell)
@@ -128,6 +131,7 @@ check-cells letter count rest row =
     cond (not (eqb count (cells-of letter)) || ltb (length rest) (2 * count))
     (Err WrongCells) (misplaced-cell (first-misplaced Cells row count))
 
+-- a letter that is known, then the pairs, then the cells
 abbrev pub read-lettered : Option Letter → ℕ → List ℕ → List ℕ → Result Form Refusal
 read-lettered None count rest row = Err UnknownRow
 read-lettered (Some letter) count rest row = and-then (check-cells letter count rest row) (λ checked. read-cells letter row)

@@ -22,17 +22,23 @@ row-count bs =
     cond (ltb (length bs) 2 || ltb 65535 (length bs) || ltb 512 (word bs 0) || ltb (length bs) (directory-end Rows (word bs 0)))
     (Err ShortSheet) (Ok (word bs 0))
 
--- what a sheet is refused with: first for its length, then for the first row that is misplaced
+-- the refusal for the first row that is misplaced
 abbrev pub misplaced-row : Option ℕ → Option Refusal
 misplaced-row None = None
 misplaced-row (Some row) = Some (RowMisplaced row)
 
+-- the refusal for the count, or else for a row
 abbrev pub directory-refusal : List ℕ → Result ℕ Refusal → Option Refusal
 directory-refusal bs (Err e) = Some e
 directory-refusal bs (Ok rows) = misplaced-row (first-misplaced Rows bs rows)
 
+-- what a sheet is refused with
 abbrev pub sheet-refusal : List ℕ → Option Refusal
 sheet-refusal bs = directory-refusal bs (row-count bs)
+
+-- the bytes of the row behind the first k
+abbrev pub row-bytes : List ℕ → ℕ → List ℕ
+row-bytes bs k = part-at Rows bs k
 
 -- a sheet just read: its first row comes next
 pub record Begun (bs : List ℕ) (s : Sheet) : Type 0 where

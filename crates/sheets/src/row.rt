@@ -3,6 +3,8 @@ ghost use mathlib.Core.Path.{_≡_};
 ghost use Prim.Native.Nat.{_<_};
 ghost use Rattle.sheets.specs.Rows.{in-cell, number-cell, price-cell, type-cell, check-cells, read-cells, read-lettered, read-form};
 ghost use Rattle.sheets.specs.Alone.{Row-alone, Cell-alone};
+ghost use Rattle.sheets.specs.Pairs.{Pair-rule};
+ghost use Rattle.sheets.specs.Places.{Cells-told};
 ghost use Rattle.sheets.specs.Letters.{letter-of};
 ghost use Rattle.sheets.specs.Rows.{read-entry, read-change, read-cancel, read-mass-cancel, read-opening};
 use super::cells::read_number;
@@ -171,11 +173,14 @@ fn read_lettered(byte: u8, count: u8, rest: &[u8], row: &[u8]) -> Result<Form, R
     read_cells(letter, row)
 }
 
-// Reads a row into the form that it asks for. What a row is read as hangs on its own bytes alone, and a cell on its own.
+// Reads a row into the form that it asks for. The laws of reading stand with it: a row hangs on its own bytes alone, and a
+// cell on its own; a directory is refused for its first misplaced pair, and a cell for its first byte that cannot stand there.
 pub fn read_form(row: &[u8]) -> Result<Form, Refusal>
     ensures told { λ r. ⌜ r ≡ read-form (now (row .entry)) ⌝ }
     ensures rows { λ _. ⌜ Row-alone ⌝ }
     ensures cells { λ _. ⌜ Cell-alone ⌝ }
+    ensures pairs { λ _. ⌜ Pair-rule ⌝ }
+    ensures places { λ _. ⌜ Cells-told ⌝ }
 {
     match row {
         [letter, count, rest @ ..] => read_lettered(*letter, *count, rest, row),

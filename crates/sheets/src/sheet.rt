@@ -6,7 +6,6 @@ ghost use Rattle.std.specs.Results.{Cases as ByOk};
 ghost use Rattle.std.specs.declared.option.Option.the-variants.{Some, None};
 ghost use Rattle.std.specs.declared.result.Result.the-variants.{Ok, Err};
 ghost use Rattle.sheets.specs.Sheets.{row-count, sheet-refusal, Begun, next-row, Drew, moved-on, rows-left};
-ghost use Rattle.sheets.specs.Pairs.{Pair-rule};
 use super::bytes::word_at;
 use super::directory::Directory;
 use super::slip::Slip;
@@ -52,7 +51,6 @@ impl<'a> Sheet<'a> {
     pub fn read(bytes: &'a [u8]) -> Result<Sheet<'a>, Refusal>
         ensures told { λ r. ⌜ ByOk r (λ s. (sheet-refusal (now (bytes .entry)) ≡ None) × Begun (now (bytes .entry)) s)
             (λ e. sheet-refusal (now (bytes .entry)) ≡ Some e) ⌝ }
-        ensures pairs { λ _. ⌜ Pair-rule ⌝ }
     {
         let count = row_count(bytes)?;
         match Directory::Rows.first_misplaced(bytes, count) {

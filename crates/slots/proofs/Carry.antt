@@ -47,7 +47,9 @@ into-back ss i c l e = into ss i c l ∙ rw (take-more ss i None l, e, held-appe
 pub put-told : {X : Type 0} (ss : List (Option X)) → length ss ≡ 32 → (i : ℕ) → FreeAt ss i → true ≡ ltb (length (take 32 (held ss))) 32
 put-told ss n i f = sym (lt-ltb (length (take 32 (held ss))) 32 (omega (arith, n, ap length (all-held ss n), one-free ss i (f .within) (f .free))))
 
-pub put-left : {X : Type 0} (f : X → Rank) (ss ts : List (Option X)) → length ss ≡ 32 → length ts ≡ 32 → (gap : ℕ) (x : X) → length (held (take gap ss)) ≡ place-of f (f x) (held ss) → held ts ≡ held (take gap ss) ++ (x ∷ held (drop gap ss)) → take 32 (held ts) ≡ put-in f x (take 32 (held ss))
+pub put-left : {X : Type 0} (f : X → Rank) (ss ts : List (Option X)) → length ss ≡ 32 → length ts ≡ 32 → (gap : ℕ) (x : X) →
+    length (held (take gap ss)) ≡ place-of f (f x) (held ss) → held ts ≡ held (take gap ss) ++ (x ∷ held (drop gap ss)) →
+    take 32 (held ts) ≡ put-in f x (take 32 (held ss))
 put-left f ss ts n m gap x e h = all-held ts m ∙ h ∙ sym (at-gap ss gap (place-of f (f x) (held ss)) x e) ∙ ap (put-in f x) (sym (all-held ss n))
 
 pub put-full : {X : Type 0} (ss : List (Option X)) → length ss ≡ 32 → length (held ss) ≡ length ss → false ≡ ltb (length (take 32 (held ss))) 32

@@ -1,22 +1,18 @@
 -- What becomes of the records when slots are read, written and moved.
 use mathlib.Core.Path.{_≡_, refl, ap, sym, _∙_}
-use mathlib.Core.Bool.{Bool, true, false, cond, not}
+use mathlib.Core.Bool.{Bool, true, false}
 use mathlib.Core.List.{List, [], _∷_, _++_}
 use Prim.Native.Nat.{ℕ, zero, suc, _+_, _-_, _<_, _≤_}
 use native.Mathlib.Omega.{arith}
-use native.Mathlib.Nat.{add-zero}
 use lib.ListN.{length, take, drop, set, getD}
 use mathlib.Core.Logic.{⊎-elim}
-use borrow.Rule.Slice.PartMut.{putMid, post-is}
 use Rattle.std.specs.shelf.Lists.{leading, inserted, removed}
 use Rattle.std.specs.shelf.Maps.{nth}
 use Rattle.std.specs.Options.{isSome}
 use Rattle.std.specs.declared.option.Option.{Option}
 use Rattle.std.specs.declared.option.Option.the-variants.{Some, None}
 use Rattle.std.proofs.shelf.Tests.{true≢false, false≢true, cases-lt}
-use Rattle.std.proofs.shelf.Lists.{take-more, drop-more, take-all, drop-all, length-append, length-push, append-assoc, take-append-drop, take-at, drop-at, set-at, append-nil, take-take, length-take, length-drop, getD-take, getD-drop}
-use Rattle.std.proofs.shelf.Parts.{between-is}
-use Rattle.books.proofs.Lists.{shifted}
+use Rattle.std.proofs.shelf.Lists.{take-more, drop-more, take-all, drop-all, length-append, length-push, take-append-drop, take-at, drop-at, take-take, length-take}
 use Rattle.slots.specs.Slots.{held}
 
 pub held-append : {X : Type 0} (a b : List (Option X)) → held (a ++ b) ≡ held a ++ held b
@@ -43,11 +39,13 @@ one-free (Some x ∷ ss) zero l h = let z : _≡_ {A = ℕ} 0 1 = cc in absurd (
 one-free (Some x ∷ ss) (suc i) l h = omega (arith, one-free ss i (omega arith) h)
 
 -- one slot more
-pub count-taken : {X : Type 0} (ss : List (Option X)) (i : ℕ) (s : Option X) → i < length ss → s ≡ getD ss i s → isSome s ≡ true → length (held (take (i + 1) ss)) ≡ length (held (take i ss)) + 1
+pub count-taken : {X : Type 0} (ss : List (Option X)) (i : ℕ) (s : Option X) → i < length ss → s ≡ getD ss i s → isSome s ≡ true →
+    length (held (take (i + 1) ss)) ≡ length (held (take i ss)) + 1
 count-taken ss i (Some x) l e t = rw (take-more ss i (Some x) l, ← e, held-append (take i ss) (Some x ∷ []), length-push) refl
 count-taken ss i None l e t = absurd (false≢true t)
 
-pub count-free : {X : Type 0} (ss : List (Option X)) (i : ℕ) (s : Option X) → i < length ss → s ≡ getD ss i s → isSome s ≡ false → length (held (take (i + 1) ss)) ≡ length (held (take i ss))
+pub count-free : {X : Type 0} (ss : List (Option X)) (i : ℕ) (s : Option X) → i < length ss → s ≡ getD ss i s → isSome s ≡ false →
+    length (held (take (i + 1) ss)) ≡ length (held (take i ss))
 count-free ss i (Some x) l e t = absurd (true≢false t)
 count-free ss i None l e t = rw (take-more ss i None l, ← e, held-append (take i ss) (None ∷ []), length-append) (omega arith)
 
@@ -58,23 +56,28 @@ Scanned p ss i = leading p (held ss) ≡ length (held (take i ss)) + leading p (
 pub scanned-none : {X : Type 0} (p : X → Bool) (ss : List (Option X)) → Scanned p ss 0
 scanned-none p ss = omega arith
 
-pub scanned-free : {X : Type 0} (p : X → Bool) (ss : List (Option X)) (i : ℕ) (s : Option X) → i < length ss → s ≡ getD ss i s → isSome s ≡ false → Scanned p ss i → Scanned p ss (i + 1)
+pub scanned-free : {X : Type 0} (p : X → Bool) (ss : List (Option X)) (i : ℕ) (s : Option X) → i < length ss → s ≡ getD ss i s →
+    isSome s ≡ false → Scanned p ss i → Scanned p ss (i + 1)
 scanned-free p ss i (Some x) l e t h = absurd (true≢false t)
 scanned-free p ss i None l e t h = rw (count-free ss i None l e refl) (h ∙ rw (drop-more ss i None l, ← e) refl)
 
-pub scanned-yes : {X : Type 0} (p : X → Bool) (ss : List (Option X)) (i : ℕ) (s : Option X) (y : X) → i < length ss → s ≡ getD ss i s → s ≡ Some y → p y ≡ true → Scanned p ss i → Scanned p ss (i + 1)
+pub scanned-yes : {X : Type 0} (p : X → Bool) (ss : List (Option X)) (i : ℕ) (s : Option X) (y : X) → i < length ss → s ≡ getD ss i s →
+    s ≡ Some y → p y ≡ true → Scanned p ss i → Scanned p ss (i + 1)
 scanned-yes p ss i (Some x) y l e t b h =
     let k : x ≡ y = cc in
     let d : leading p (held (drop i ss)) ≡ 1 + leading p (held (drop (i + 1) ss)) = rw (drop-more ss i (Some x) l, ← e, k, b) refl in
     omega (arith, h, d, count-taken ss i (Some x) l e refl)
 scanned-yes p ss i None y l e t b h = let z : _≡_ {A = ℕ} 0 1 = cc in absurd (omega arith)
 
-pub scanned-no : {X : Type 0} (p : X → Bool) (ss : List (Option X)) (i : ℕ) (s : Option X) (y : X) → i < length ss → s ≡ getD ss i s → s ≡ Some y → p y ≡ false → Scanned p ss i → (leading p (held ss) ≡ length (held (take i ss))) × (length (held (take i ss)) < length (held ss))
+pub scanned-no : {X : Type 0} (p : X → Bool) (ss : List (Option X)) (i : ℕ) (s : Option X) (y : X) → i < length ss → s ≡ getD ss i s →
+    s ≡ Some y → p y ≡ false → Scanned p ss i →
+    (leading p (held ss) ≡ length (held (take i ss))) × (length (held (take i ss)) < length (held ss))
 scanned-no p ss i (Some x) y l e t b h =
     let k : x ≡ y = cc in
     let d : leading p (held (drop i ss)) ≡ 0 = rw (drop-more ss i (Some x) l, ← e, k, b) refl in
     let m : length (held (drop i ss)) ≡ 1 + length (held (drop (i + 1) ss)) = rw (drop-more ss i (Some x) l, ← e) (omega arith) in
-    let a : length (held ss) ≡ length (held (take i ss)) + length (held (drop i ss)) = ap (λ l. length (held l)) (sym (take-append-drop i ss)) ∙ ap length (held-append (take i ss) (drop i ss)) ∙ length-append (held (take i ss)) (held (drop i ss)) in
+    let a : length (held ss) ≡ length (held (take i ss)) + length (held (drop i ss)) = ap (λ l. length (held l)) (sym (take-append-drop i ss))
+    ∙ ap length (held-append (take i ss) (drop i ss)) ∙ length-append (held (take i ss)) (held (drop i ss)) in
     (omega (arith, h, d), omega (arith, m, a))
 scanned-no p ss i None y l e t b h = let z : _≡_ {A = ℕ} 0 1 = cc in absurd (omega arith)
 
@@ -85,21 +88,24 @@ scanned-all p ss i l h =
     omega (arith, h, d, t)
 
 -- the record in a taken slot, another one in it, and none
-pub nth-held : {X : Type 0} (ss : List (Option X)) (i : ℕ) → i < length ss → isSome (getD ss i None) ≡ true → getD ss i None ≡ nth (held ss) (length (held (take i ss)))
+pub nth-held : {X : Type 0} (ss : List (Option X)) (i : ℕ) → i < length ss → isSome (getD ss i None) ≡ true →
+    getD ss i None ≡ nth (held ss) (length (held (take i ss)))
 nth-held [] i l t = absurd (omega arith)
 nth-held (None ∷ ss) zero l t = absurd (false≢true t)
 nth-held (Some x ∷ ss) zero l t = refl
 nth-held (None ∷ ss) (suc i) l t = nth-held ss i (omega arith) t
 nth-held (Some x ∷ ss) (suc i) l t = nth-held ss i (omega arith) t
 
-pub held-set : {X : Type 0} (ss : List (Option X)) (i : ℕ) (y : X) → i < length ss → isSome (getD ss i None) ≡ true → held (set ss i (Some y)) ≡ set (held ss) (length (held (take i ss))) y
+pub held-set : {X : Type 0} (ss : List (Option X)) (i : ℕ) (y : X) → i < length ss → isSome (getD ss i None) ≡ true →
+    held (set ss i (Some y)) ≡ set (held ss) (length (held (take i ss))) y
 held-set [] i y l t = absurd (omega arith)
 held-set (None ∷ ss) zero y l t = absurd (false≢true t)
 held-set (Some x ∷ ss) zero y l t = refl
 held-set (None ∷ ss) (suc i) y l t = held-set ss i y (omega arith) t
 held-set (Some x ∷ ss) (suc i) y l t = ap (λ (l : List _). x ∷ l) (held-set ss i y (omega arith) t)
 
-pub held-freed : {X : Type 0} (ss : List (Option X)) (i : ℕ) → i < length ss → isSome (getD ss i None) ≡ true → held (set ss i None) ≡ removed (held ss) (length (held (take i ss)))
+pub held-freed : {X : Type 0} (ss : List (Option X)) (i : ℕ) → i < length ss → isSome (getD ss i None) ≡ true →
+    held (set ss i None) ≡ removed (held ss) (length (held (take i ss)))
 held-freed [] i l t = absurd (omega arith)
 held-freed (None ∷ ss) zero l t = absurd (false≢true t)
 held-freed (Some x ∷ ss) zero l t = refl
@@ -110,7 +116,8 @@ held-freed (Some x ∷ ss) (suc i) l t = ap (λ (l : List _). x ∷ l) (held-fre
 pub held-parts : {X : Type 0} (ss : List (Option X)) (i : ℕ) → held ss ≡ held (take i ss) ++ held (drop i ss)
 held-parts ss i = ap held (sym (take-append-drop i ss)) ∙ held-append (take i ss) (drop i ss)
 
-pub at-gap : {X : Type 0} (ss : List (Option X)) (gap n : ℕ) (y : X) → length (held (take gap ss)) ≡ n → inserted (held ss) n y ≡ held (take gap ss) ++ (y ∷ held (drop gap ss))
+pub at-gap : {X : Type 0} (ss : List (Option X)) (gap n : ℕ) (y : X) → length (held (take gap ss)) ≡ n →
+    inserted (held ss) n y ≡ held (take gap ss) ++ (y ∷ held (drop gap ss))
 at-gap ss gap n y e = rw (held-parts ss gap, take-at (held (take gap ss)) (held (drop gap ss)) n e, drop-at (held (take gap ss)) (held (drop gap ss)) n e) refl
 
 -- every slot nearer to the gap than d is taken
@@ -120,7 +127,8 @@ Near ss gap d = (k : ℕ) → gap ≤ k + d → k < gap + d → k < length ss �
 pub near-none : {X : Type 0} (ss : List (Option X)) (gap : ℕ) → Near ss gap 0
 near-none ss gap k a b l = absurd (omega arith)
 
-pub near-more : {X : Type 0} (ss : List (Option X)) (gap d : ℕ) → (d < gap → isSome (getD ss (gap - 1 - d) None) ≡ true) → (d < length ss - gap → isSome (getD ss (gap + d) None) ≡ true) → Near ss gap d → Near ss gap (d + 1)
+pub near-more : {X : Type 0} (ss : List (Option X)) (gap d : ℕ) → (d < gap → isSome (getD ss (gap - 1 - d) None) ≡ true) →
+    (d < length ss - gap → isSome (getD ss (gap + d) None) ≡ true) → Near ss gap d → Near ss gap (d + 1)
 near-more ss gap d before behind near k a b l = ⊎-elim
     (λ (h : k + d < gap). let e : k ≡ gap - 1 - d = omega arith in rw e (before (omega arith)))
     (λ (h : gap ≤ k + d). ⊎-elim
@@ -145,7 +153,8 @@ none-is s e = ap isSome e
 count-grows : {X : Type 0} (ss : List (Option X)) (i j : ℕ) → i ≤ j → length (held (take i ss)) ≤ length (held (take j ss))
 count-grows ss i j l = rw (held-parts (take j ss) i, take-take i j ss l, length-append (held (take i ss)) (held (drop i (take j ss)))) (omega arith)
 
-pub count-between : {X : Type 0} (ss : List (Option X)) (i k j n : ℕ) → i ≤ k → k ≤ j → length (held (take i ss)) ≡ n → length (held (take j ss)) ≡ n → length (held (take k ss)) ≡ n
+pub count-between : {X : Type 0} (ss : List (Option X)) (i k j n : ℕ) → i ≤ k → k ≤ j → length (held (take i ss)) ≡ n →
+    length (held (take j ss)) ≡ n → length (held (take k ss)) ≡ n
 count-between ss i k j n a b p q = omega (arith, count-grows ss i k a, count-grows ss k j b, p, q)
 
 -- 32 slots hold all their records

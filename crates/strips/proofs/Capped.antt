@@ -1,6 +1,6 @@
 -- The first so many of so many places.
 use mathlib.Core.Path.{_≡_, refl, ap, sym, _∙_}
-use mathlib.Core.List.{List, []}
+use mathlib.Core.List.{List}
 use Prim.Native.Nat.{ℕ, _+_, _-_, _<_, _≤_, min}
 use native.Mathlib.Omega.{arith}
 use lib.ListN.{length, take, set}
@@ -8,8 +8,6 @@ use mathlib.Core.Bool.{true}
 use mathlib.Core.Logic.{⊎-elim}
 use lib.Dec.{ltb}
 use Rattle.std.specs.shelf.Lists.{removed}
-use Rattle.std.specs.shelf.Maps.{nth}
-use Rattle.std.specs.declared.option.Option.{Option}
 use Rattle.std.proofs.shelf.Lists.{take-take, take-all, length-take, set-past}
 use Rattle.std.proofs.shelf.Tests.{cases-lt, lt-ltb}
 use Rattle.orders.specs.declared.rank.Rank.{Rank}
@@ -41,10 +39,12 @@ module _ {X : Type 0} (c m : ℕ) (xs : List X) (n : ℕ) where
   pub put-told : (k : ℕ) → n ≡ length (front c m xs) → k ≡ min m (length xs) → n < k → true ≡ ltb (length (front c m xs)) (min m (length xs))
   put-told k used e h = sym (lt-ltb _ _ (omega arith))
 
-  pub put-left : (f : X → Rank) (k : ℕ) (ys : List X) (x : X) → front c m xs ≡ take n xs → k ≡ min m (length xs) → n < k → take (n + 1) ys ≡ put-in f x (take n xs) → front (n + 1) m ys ≡ put-in f x (front c m xs)
+  pub put-left : (f : X → Rank) (k : ℕ) (ys : List X) (x : X) → front c m xs ≡ take n xs → k ≡ min m (length xs) → n < k →
+      take (n + 1) ys ≡ put-in f x (take n xs) → front (n + 1) m ys ≡ put-in f x (front c m xs)
   put-left f k ys x is e h t = take-take (n + 1) m ys (omega arith) ∙ t ∙ ap (put-in f x) (sym is)
 
-  pub take-left : n ≡ length (front c m xs) → front c m xs ≡ take n xs → (i : ℕ) (ys : List X) → i < n → take (n - 1) ys ≡ removed (take n xs) i → front (n - 1) m ys ≡ removed (front c m xs) i
+  pub take-left : n ≡ length (front c m xs) → front c m xs ≡ take n xs → (i : ℕ) (ys : List X) → i < n →
+      take (n - 1) ys ≡ removed (take n xs) i → front (n - 1) m ys ≡ removed (front c m xs) i
   take-left used is i ys h t =
       let w : n ≤ m = omega (arith, used, front-length c m xs) in
       take-take (n - 1) m ys (omega arith) ∙ t ∙ ap (λ (l : List X). removed l i) (sym is)

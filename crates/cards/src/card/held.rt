@@ -8,7 +8,7 @@ ghost use Rattle.books.specs.declared.queue.Record.the-variants.{Standing, Wait
 ghost use Rattle.books.specs.Lists.{ranks-as};
 ghost use Rattle.books.specs.Model.{queue-of};
 ghost use Rattle.cards.specs.Cards.{held-by};
-ghost use Rattle.cards.specs.Held.{held-at, held-with, held-without, over-first, record-rank};
+ghost use Rattle.cards.specs.Held.{held-at, held-with, held-without, none-held, over-first, record-rank};
 use super::FrontCard;
 use books::queue::Queue;
 use books::queue::Record;
@@ -112,5 +112,15 @@ impl<B> FrontCard<B> {
             Queue::Stops(Side::Buy) => self.buy = None,
             Queue::Stops(Side::Sell) => self.sell = None,
         }
+    }
+    // Nothing is held any more.
+    pub(super) fn let_all_go(&mut self)
+        ensures left { λ _. ⌜ held-by (now (self .exit)) ≡ none-held ⌝ }
+        ensures same { λ _. ⌜ now (self .exit) .below ≡ now (self .entry) .below ⌝ }
+    {
+        self.bid = None;
+        self.offer = None;
+        self.buy = None;
+        self.sell = None;
     }
 }

@@ -100,9 +100,6 @@ pub impl<B: Book> Book for FrontCard<B> as FrontCardBook {
 
     fn clear(&mut self) {
         self.below.clear();
-        self.bid = None;
-        self.offer = None;
-        self.buy = None;
-        self.sell = None;
+        self.let_all_go();
     }
 }

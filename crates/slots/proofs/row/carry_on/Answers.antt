@@ -1,4 +1,4 @@
-use mathlib.Core.Path.{_≡_, refl, ap, sym, _∙_}
+use mathlib.Core.Path.{_≡_, refl, ap, _∙_}
 use native.Mathlib.Omega.{arith}
 use Rattle.std.specs.declared.option.Option.the-variants.{None}
 use Rattle.std.proofs.shelf.Lists.{length-set, getD-set-other}
@@ -25,5 +25,6 @@ returns g c =
     let e : c .args .free ≡ i = omega (arith, c .loop-i .inv .3, c .loop-i-test .left) in
     record {
       same = length-set ss (c .args .free) (c .loop-i .carried) ∙ c .loop-i .inv .2;
-      left = into-on ss (c .args .free) (c .loop-i .carried) (omega (arith, c .loop-i .inv .2, c .pre .1 .0)) (c .loop-i .inv .1) ∙ ap (λ k. With ss k (c .loop-i .carried)) e ∙ c .loop-i .inv .0;
+      left = into-on ss (c .args .free) (c .loop-i .carried) (omega (arith, c .loop-i .inv .2, c .pre .1 .0)) (c .loop-i .inv .1)
+          ∙ ap (λ k. With ss k (c .loop-i .carried)) e ∙ c .loop-i .inv .0;
     }

@@ -1,4 +1,3 @@
-use mathlib.Core.Path.{_≡_, _∙_}
 use Rattle.cards.specs.Cards.{held-by}
 use Rattle.cards.proofs.Covered.{look-first}
 use Rattle.cards.proofs.card.FrontCard.first.Needs as need

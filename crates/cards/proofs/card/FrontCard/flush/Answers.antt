@@ -1,4 +1,4 @@
-use mathlib.Core.Path.{_≡_, refl, ap, _∙_}
+use mathlib.Core.Path.{refl, ap, _∙_}
 use Rattle.cards.specs.Cards.{held-by}
 use Rattle.cards.specs.Held.{held-at}
 use Rattle.cards.proofs.Covered.{flushed, none-after}

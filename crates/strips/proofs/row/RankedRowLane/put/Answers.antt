@@ -1,5 +1,3 @@
-use mathlib.Core.Path.{_≡_}
-use Prim.Native.Nat.{_<_}
 use borrow.Author.Needs.{needs}
 use Rattle.strips.proofs.Capped.{put-told, put-left}
 use Rattle.strips.proofs.row.RankedRowLane.put.Needs as need
