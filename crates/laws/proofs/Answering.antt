@@ -1,8 +1,8 @@
 -- Each form on an open day: a refused step changes nothing, an accepted one goes by the laws.
 use mathlib.Core.Path.{_≡_, refl, ap, sym, _∙_, subst}
-use mathlib.Core.Bool.{Bool, true, false, cond}
-use mathlib.Core.List.{List, [], _∷_, _++_}
-use Prim.Native.Nat.{ℕ, suc, zero, _+_, _-_, _*_, _<_, _≤_}
+use mathlib.Core.Bool.{false}
+use mathlib.Core.List.{List, [], _++_}
+use Prim.Native.Nat.{ℕ, _+_, _<_, _≤_}
 use native.Mathlib.Omega.{arith}
 use lib.Dec.{eqb, leb, ltb}
 use lib.ListN.{length}
@@ -23,37 +23,34 @@ use Rattle.books.specs.declared.queue.Record.the-variants.{Standing, Waiting}
 use Rattle.books.specs.Model.{Queues, at, found, look-at, order-of-record}
 use Rattle.tapes.specs.declared.line.Line.{Line}
 use Rattle.tapes.specs.declared.cause.Cause.the-variants.{Asked as WasAsked, DayClosed}
-use Rattle.tapes.specs.Reels.{Reel, free}
+use Rattle.tapes.specs.Reels.{free}
 use Rattle.forms.specs.declared.form.EntryForm.{EntryForm}
 use Rattle.forms.specs.declared.form.ChangeForm.{ChangeForm}
 use Rattle.forms.specs.declared.form.CancelForm.{CancelForm}
 use Rattle.forms.specs.declared.form.MassCancelForm.{MassCancelForm}
 use Rattle.forms.specs.declared.form.Form.{Form}
-use Rattle.forms.specs.declared.form.Form.the-variants.{Entry, Change as ChangeStep, Cancel, MassCancel, Closing, Opening}
+use Rattle.forms.specs.declared.form.Form.the-variants.{Entry, Change as ChangeStep, Cancel, MassCancel, Closing}
 use Rattle.forms.specs.declared.refusal.Refusal.{Refusal}
 use Rattle.forms.specs.declared.refusal.Refusal.the-variants.{TapeFull, NoStamps, UnknownOrder, QuantityTraded, DisclosedBarred}
 use Rattle.matching.specs.declared.asked.Asked.{Asked}
 use Rattle.matching.specs.declared.change.Change.{Change}
-use Rattle.matching.specs.declared.clock.Clock.{Clock}
 use Rattle.matching.specs.declared.pick.Wanted.{Wanted}
 use Rattle.matching.specs.declared.pick.Pick.the-variants.{Matching, Daily}
 use Rattle.matching.specs.Clocks.{undrawn}
-use Rattle.matching.specs.Model.{Floor, pulls, happen}
+use Rattle.matching.specs.Model.{Floor}
 use Rattle.matching.specs.Entering.{enter}
-use Rattle.matching.specs.Changing.{new-price, new-quantity, new-disclosed, traded}
+use Rattle.matching.specs.Changing.{new-quantity, new-disclosed, traded}
 use Rattle.checks.specs.declared.changes.ChangeAsked.{ChangeAsked}
-use Rattle.checks.specs.declared.removals.CancelAsked.{CancelAsked}
-use Rattle.checks.specs.Cells.{andThen}
 use Rattle.checks.specs.Combos.{disclosed-barred}
 use Rattle.checks.specs.Entries.{read-entry}
 use Rattle.checks.specs.Changes.{read-change}
 use Rattle.checks.specs.Removals.{read-cancel, read-mass-cancel}
 use Rattle.venue.specs.declared.known.Found.{Found}
 use Rattle.venue.specs.declared.plan.Plan.{Plan}
-use Rattle.venue.specs.Rooms.{records, needed, lines-free, stamps-free}
+use Rattle.venue.specs.Rooms.{needed, lines-free, stamps-free}
 use Rattle.venue.specs.Known.{client-free, of-firm, known-at, known, standing-in}
-use Rattle.venue.specs.Steps.{answered, left-by, entry-told, quantity-open, disclosed-open, plan-for, change-told, carry-out, cancel-told, pull-found, mass-told, pull-wanted, pull-daily}
-use Rattle.laws.specs.Tally.{Tally, Request, entry, change, removal, noted, at-ease}
+use Rattle.venue.specs.Steps.{answered, left-by, entry-told, quantity-open, disclosed-open, change-told, carry-out, cancel-told, pull-found, mass-told, pull-wanted, pull-daily}
+use Rattle.laws.specs.Tally.{Tally, Request, change, removal, noted}
 use Rattle.laws.specs.Fair.{Fair-lines}
 use Rattle.laws.specs.Runs.{entry-asked, change-asked, request, fed}
 use Rattle.laws.specs.Smooth.{Course, ended}

@@ -1,22 +1,20 @@
 -- An entry: its arrival fits, and the tally notes it.
 use mathlib.Core.Path.{_≡_, refl, ap, sym, _∙_, subst}
-use mathlib.Core.Bool.{Bool, true, false, cond, _&&_, _||_}
 use mathlib.Core.List.{List, [], _∷_}
-use Prim.Native.Nat.{ℕ, suc, zero, _+_, _-_, _*_, _<_, _≤_}
+use Prim.Native.Nat.{ℕ, _+_, _-_}
 use native.Mathlib.Omega.{arith}
-use lib.Dec.{eqb, ltb}
+use lib.Dec.{eqb}
 use Rattle.std.specs.shelf.Lists.{All}
 use Rattle.std.specs.shelf.Maps.{nth}
 use Rattle.std.specs.Options.{mapped, valueOr}
 use Rattle.std.specs.declared.option.Option.{Option}
 use Rattle.std.specs.declared.option.Option.the-variants.{Some, None}
-use Rattle.std.proofs.shelf.Tests.{cond-both, cond-true, cond-false, eq-eqb}
+use Rattle.std.proofs.shelf.Tests.{cond-both, cond-true, eq-eqb}
 use Rattle.orders.specs.declared.side.Side.{Side}
 use Rattle.orders.specs.declared.price.Price.{Price}
 use Rattle.orders.specs.declared.order.Order.{Order}
 use Rattle.orders.specs.declared.order.Stop.{Stop}
 use Rattle.orders.specs.declared.row.OrderRow.{OrderRow}
-use Rattle.orders.specs.Rows.{row-of}
 use Rattle.orders.specs.Sides.{other}
 use Rattle.books.specs.declared.queue.Record.the-variants.{Standing, Waiting}
 use Rattle.books.specs.declared.queue.Put.{Put}
@@ -30,16 +28,16 @@ use Rattle.matching.specs.declared.asked.Asked.{Asked}
 use Rattle.matching.specs.Model.{Floor, Event, enters, parks, bounces, misses, happen}
 use Rattle.matching.specs.Next.{total, first-order}
 use Rattle.matching.specs.Entering.{order-from, short, judged, stop-from, parks-or-not, at-market, arrival-as, arrival}
-use Rattle.laws.specs.Tally.{Place, stands, waits, incoming, Account, Tally, Request, entry, account, adjust, only, numbered, take-off, if-open, refilled, ran-out, less, no-price, limit-as, place-as, newcomer, note-entry, note-cancel, noted, first-price}
+use Rattle.laws.specs.Tally.{Place, stands, waits, incoming, Account, Tally, Request, entry, account, adjust, only, numbered, take-off, refilled, ran-out, less, no-price, limit-as, place-as, newcomer, noted}
 use Rattle.laws.specs.Fair.{Fair-lines}
-use Rattle.laws.proofs.Queues.{Good, Low, Sided}
+use Rattle.laws.proofs.Queues.{Low, Sided}
 use Rattle.laws.proofs.Sums.{Measure, over-agree, everywhere, one-of}
-use Rattle.laws.proofs.Rows.{Allowed, Shows, entered-row, order-from-row, entered-shows}
-use Rattle.laws.proofs.Events.{Arrives, Parks, Fits, going, coming, taken-up, put-down}
+use Rattle.laws.proofs.Rows.{Allowed, entered-row, order-from-row, entered-shows}
+use Rattle.laws.proofs.Events.{Arrives, Fits, going, coming, taken-up, put-down}
 use Rattle.laws.specs.Smooth.{lines}
-use Rattle.laws.proofs.Tapes.{tape, Roomy, stamp-is}
+use Rattle.laws.proofs.Tapes.{Roomy, stamp-is}
 use Rattle.laws.proofs.Counts.{absent}
-use Rattle.laws.proofs.Following.{Sane, Calm, done-room}
+use Rattle.laws.proofs.Following.{Calm, done-room}
 use Rattle.laws.proofs.Tallies.{View, by-row, as-seen, seen, on-account, of-maybe, through, Matches, total-adjust, not-only}
 use Rattle.laws.proofs.Firsts.{first-of, first-price-is}
 

@@ -1,18 +1,7 @@
 -- An order that is entered or changed is as it was asked.
-use mathlib.Core.Path.{_≡_, refl, ap, sym, _∙_, subst}
-use mathlib.Core.List.{List}
-use Prim.Native.Nat.{ℕ, min}
-use Rattle.std.specs.declared.result.Result.{Result}
-use Rattle.std.specs.declared.result.Result.the-variants.{Ok}
-use Rattle.orders.specs.declared.order.Order.{Order}
+use mathlib.Core.Path.{ap, subst}
 use Rattle.orders.specs.declared.row.OrderRow.{OrderRow}
-use Rattle.forms.specs.declared.refusal.Refusal.{Refusal}
-use Rattle.matching.specs.declared.asked.Asked.{Asked}
-use Rattle.matching.specs.declared.change.Change.{Change}
 use Rattle.matching.specs.Model.{Floor}
-use Rattle.checks.specs.Entries.{read-entry}
-use Rattle.venue.specs.declared.plan.Plan.{Plan}
-use Rattle.venue.specs.Steps.{change-told}
 use Rattle.venue.specs.Days.{State, set-up, at-least-1}
 use Rattle.laws.specs.Tally.{Tally, starting}
 use Rattle.laws.specs.Runs.{after}

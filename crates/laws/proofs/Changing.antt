@@ -1,19 +1,17 @@
 -- A change: the changed order is as it was meant, its event fits, and the tally notes it.
-use mathlib.Core.Path.{_≡_, refl, ap, sym, _∙_, subst}
-use mathlib.Core.Bool.{Bool, true, false, cond, not, _||_}
-use mathlib.Core.List.{List, [], _∷_}
-use Prim.Native.Nat.{ℕ, suc, zero, _+_, _-_, _*_, _<_, _≤_, min}
+use mathlib.Core.Path.{_≡_, refl, ap, sym, _∙_}
+use mathlib.Core.Bool.{true, false, cond, not, _||_}
+use Prim.Native.Nat.{ℕ, _<_, _≤_, min}
 use native.Mathlib.Omega.{arith}
 use lib.Dec.{eqb, ltb}
 use Rattle.std.specs.shelf.Maps.{nth}
 use Rattle.std.specs.declared.option.Option.{Option}
-use Rattle.std.specs.declared.option.Option.the-variants.{Some, None}
+use Rattle.std.specs.declared.option.Option.the-variants.{Some}
 use Rattle.std.proofs.shelf.Tests.{cond-true, cond-false, or-parts, not-false, eqb-true, eq-eqb, ltb-false}
 use Rattle.orders.specs.declared.side.Side.{Side}
 use Rattle.orders.specs.declared.price.Price.{Price}
 use Rattle.orders.specs.declared.order.Order.{Order}
 use Rattle.orders.specs.declared.row.OrderRow.{OrderRow}
-use Rattle.orders.specs.Bounds.{Fits as Bounded}
 use Rattle.orders.specs.Prices.{level, same-price}
 use Rattle.orders.specs.Rows.{row-of}
 use Rattle.orders.specs.Lots.{showing}
@@ -21,13 +19,13 @@ use Rattle.books.specs.Model.{at}
 use Rattle.matching.specs.declared.change.Change.{Change}
 use Rattle.matching.specs.Model.{Floor, Event, amends, recalls, happen}
 use Rattle.matching.specs.Changing.{new-price, new-quantity, new-disclosed, new-leaves, traded, loses-turn, amended, recalled}
-use Rattle.laws.specs.Tally.{Place, stands, waits, incoming, Account, Tally, account, only, numbered, changed-row, open-then, costs-turn, after-change, note-change, change}
-use Rattle.laws.proofs.Queues.{Low, Same-place}
-use Rattle.laws.proofs.Sums.{Measure, of-hand, everywhere, one-of}
-use Rattle.laws.proofs.Rows.{Allowed, Shows, reads, anew-fits}
-use Rattle.laws.proofs.Events.{Changes, Changed-at, Fits, going, coming, one-itself}
+use Rattle.laws.specs.Tally.{stands, incoming, Account, Tally, account, only, numbered, changed-row, costs-turn, after-change, note-change, change}
+use Rattle.laws.proofs.Queues.{Low}
+use Rattle.laws.proofs.Sums.{Measure, of-hand, one-of}
+use Rattle.laws.proofs.Rows.{Allowed, reads, anew-fits}
+use Rattle.laws.proofs.Events.{Changes, Fits, going, one-itself}
 use Rattle.laws.proofs.Tapes.{Roomy, stamp-is}
-use Rattle.laws.proofs.Following.{Sane, Calm}
+use Rattle.laws.proofs.Following.{Calm}
 use Rattle.laws.proofs.Tallies.{View, by-row, as-seen, seen, on-account, of-maybe, through, Matches, is-only, one-moved, one-only}
 
 -- what the checks of a change give

@@ -1,26 +1,20 @@
 -- Every lot is accounted for, every number is had once at most, and each order knows its quantity.
 use mathlib.Core.Path.{_≡_, refl, ap, sym, _∙_, subst}
 use mathlib.Core.Bool.{Bool, true, false, cond}
-use mathlib.Core.List.{List, [], _∷_, _++_}
+use mathlib.Core.List.{List, _++_}
 use mathlib.Core.Logic.{_⊎_, inl, inr, ⊎-elim}
-use Prim.Native.Nat.{ℕ, suc, zero, _+_, _-_, _<_, _≤_, min}
+use Prim.Native.Nat.{ℕ, _+_, _-_, _<_, _≤_}
 use native.Mathlib.Omega.{arith}
 use lib.Dec.{eqb}
-use Rattle.std.specs.shelf.Maps.{nth}
 use Rattle.std.specs.declared.option.Option.{Option}
 use Rattle.std.specs.declared.option.Option.the-variants.{Some, None}
-use Rattle.std.proofs.shelf.Tests.{cond-both, cond-true, cond-false, eqb-true, eqb-false, eq-eqb, ne-eqb, cases-lt}
-use Rattle.std.proofs.shelf.Ways.{tells}
+use Rattle.std.proofs.shelf.Tests.{cond-both, cond-true, eqb-true, eqb-false, eq-eqb, ne-eqb, cases-lt}
 use Rattle.orders.specs.declared.order.Order.{Order}
-use Rattle.orders.specs.declared.order.Stop.{Stop}
 use Rattle.orders.specs.declared.row.OrderRow.{OrderRow}
-use Rattle.orders.specs.Sides.{other}
 use Rattle.orders.specs.Lots.{lowered, renewed}
-use Rattle.orders.specs.Rows.{row-of}
 use Rattle.books.specs.declared.queue.Queue.the-variants.{Orders, Stops}
-use Rattle.books.specs.Model.{Queues, at, order-of-record}
+use Rattle.books.specs.Model.{Queues}
 use Rattle.tapes.specs.declared.line.Line.{Line}
-use Rattle.tapes.specs.declared.line.Line.the-variants.{Entered, Replaced, Released, Traded, Cancelled}
 use Rattle.matching.specs.Model.{Floor, Event, enters, parks, bounces, misses, drops, trades, stays, fires, pulls, amends, recalls, Fate, gone, again, kept, fate, held, deal, happen}
 use Rattle.matching.specs.Next.{total}
 use Rattle.laws.specs.Tally.{Place, stands, waits, incoming}

@@ -1,30 +1,29 @@
 -- Each event is smooth: its lines and stamps are had in full, what it puts is taken, and its orders keep their bounds.
 use mathlib.Core.Path.{_≡_, refl, ap, sym, _∙_, subst}
 use mathlib.Core.Bool.{Bool, true, false, cond}
-use mathlib.Core.List.{List, [], _∷_, _++_}
-use Prim.Native.Nat.{ℕ, suc, zero, _+_, _-_, _<_, _≤_}
+use mathlib.Core.List.{List, [], _∷_}
+use Prim.Native.Nat.{ℕ, suc, zero, _-_, _≤_}
 use native.Mathlib.Omega.{arith}
 use lib.Dec.{eqb, ltb}
 use Rattle.std.specs.shelf.Maps.{nth}
 use Rattle.std.specs.Options.{mapped}
 use Rattle.std.specs.declared.option.Option.{Option}
 use Rattle.std.specs.declared.option.Option.the-variants.{Some, None}
-use Rattle.std.proofs.shelf.Tests.{cond-both, eqb-true, eqb-false}
+use Rattle.std.proofs.shelf.Tests.{cond-both, eqb-false}
 use Rattle.orders.specs.declared.side.Side.{Side}
 use Rattle.orders.specs.declared.side.Side.the-variants.{Buy, Sell}
-use Rattle.orders.specs.declared.price.Price.{Price}
 use Rattle.orders.specs.declared.order.Order.{Order}
 use Rattle.orders.specs.declared.order.Stop.{Stop}
 use Rattle.orders.specs.Sides.{other, fleeting}
 use Rattle.orders.specs.Lots.{renewed, within, same-investor, with-lots, showing}
 use Rattle.orders.proofs.Orders.{fits-from}
-use Rattle.books.specs.declared.queue.Queue.the-variants.{Orders, Stops}
+use Rattle.books.specs.declared.queue.Queue.the-variants.{Orders}
 use Rattle.books.specs.declared.queue.Record.{Record}
 use Rattle.books.specs.declared.queue.Record.the-variants.{Standing, Waiting}
 use Rattle.books.specs.declared.queue.Put.{Put}
 use Rattle.books.specs.declared.queue.Put.the-variants.{Done, Full, Twice}
 use Rattle.books.specs.Model.{Queues, at, count, room, queue-of, number-of, order-in, put-answer, taken}
-use Rattle.tapes.specs.declared.cause.Cause.the-variants.{Leftover, OwnInvestor, NoPlace, ShortReach}
+use Rattle.tapes.specs.declared.cause.Cause.the-variants.{Leftover, OwnInvestor, ShortReach}
 use Rattle.matching.specs.declared.asked.Kind.{Kind}
 use Rattle.matching.specs.declared.asked.Kind.the-variants.{Limit, Market, StopLimit}
 use Rattle.matching.specs.declared.asked.Asked.{Asked}
@@ -34,13 +33,13 @@ use Rattle.matching.specs.Entering.{order-from, short, judged, stop-from, parks
 use Rattle.matching.proofs.Parts.{lowered-fits, renewed-fits}
 use Rattle.matching.proofs.Turns.{settle-next, settle-zero, lighter}
 use Rattle.laws.specs.Tally.{incoming}
-use Rattle.laws.specs.Smooth.{lines, stamps, fate-put, Put-well, fate-bounds, In-bounds, Smooth, Course, ended, then}
+use Rattle.laws.specs.Smooth.{fate-put, Put-well, fate-bounds, In-bounds, Smooth, Course, ended, then}
 use Rattle.laws.proofs.Queues.{Good}
-use Rattle.laws.proofs.Sums.{queued, of-hand, everywhere, one-of, put-new}
-use Rattle.laws.proofs.Events.{Fits, Trades, Single, one-itself, put-back-done, rest-side}
+use Rattle.laws.proofs.Sums.{queued, of-hand, one-of, put-new}
+use Rattle.laws.proofs.Events.{Trades, Single, one-itself, put-back-done, rest-side}
 use Rattle.laws.proofs.Tapes.{Roomy, tape-is, stamp-is}
 use Rattle.laws.proofs.Counts.{absent}
-use Rattle.laws.proofs.Following.{Sane, sane-happen, Calm, Next, Next?, fits-next, Enough, roomy-next, enough-next}
+use Rattle.laws.proofs.Following.{Sane, sane-happen, Calm, Next?, fits-next, Enough, roomy-next, enough-next}
 
 pub course-++ : {f g h : Floor} → Course f g → Course g h → Course f h
 course-++ ended k = k

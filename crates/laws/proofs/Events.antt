@@ -1,42 +1,38 @@
 -- When an event may happen, what goes with it and what comes, and that it leaves good queues.
 use mathlib.Core.Path.{_≡_, refl, ap, sym, _∙_, subst}
-use mathlib.Core.Bool.{Bool, true, false, cond}
-use mathlib.Core.List.{List, [], _∷_}
-use Prim.Native.Nat.{ℕ, suc, zero, _+_, _-_, _<_, _≤_, min}
+use mathlib.Core.Bool.{true}
+use mathlib.Core.List.{List}
+use Prim.Native.Nat.{ℕ, suc, _+_, _<_, _≤_}
 use native.Mathlib.Omega.{arith}
-use lib.Dec.{eqb, ltb}
+use lib.Dec.{eqb}
 use lib.ListN.{length}
-use Rattle.std.specs.shelf.Lists.{All, removed}
+use Rattle.std.specs.shelf.Lists.{removed}
 use Rattle.std.specs.shelf.Maps.{nth}
-use Rattle.std.specs.Options.{mapped}
 use Rattle.std.specs.declared.option.Option.{Option}
 use Rattle.std.specs.declared.option.Option.the-variants.{Some, None}
-use Rattle.std.proofs.shelf.Tests.{cond-both, cond-true, eqb-true, eqb-false, ltb-true, eq-eqb}
+use Rattle.std.proofs.shelf.Tests.{cond-both, cond-true, eqb-false, eq-eqb}
 use Rattle.std.proofs.shelf.Ways.{tells}
 use Rattle.orders.specs.declared.side.Side.{Side}
 use Rattle.orders.specs.declared.side.Side.the-variants.{Buy, Sell}
-use Rattle.orders.specs.declared.price.Price.{Price}
 use Rattle.orders.specs.declared.order.Order.{Order}
 use Rattle.orders.specs.declared.order.Stop.{Stop}
 use Rattle.orders.specs.declared.rank.Rank.{Rank}
 use Rattle.orders.specs.Ranks.{same-rank}
 use Rattle.orders.specs.Sides.{other}
 use Rattle.orders.specs.Lots.{lowered, renewed, within}
-use Rattle.books.specs.Lists.{swap-fits, ranks-as}
+use Rattle.books.specs.Lists.{ranks-as}
 use Rattle.books.specs.declared.queue.Queue.{Queue}
 use Rattle.books.specs.declared.queue.Queue.the-variants.{Orders, Stops}
 use Rattle.books.specs.declared.queue.Record.{Record}
 use Rattle.books.specs.declared.queue.Record.the-variants.{Standing, Waiting}
 use Rattle.books.specs.declared.queue.Put.{Put}
-use Rattle.books.specs.declared.queue.Put.the-variants.{Done, Full, Twice}
-use Rattle.books.specs.Model.{Queues, at, with-at, with-stands, rank-of, count, room, queue-of, look-at, order-in, stop-in, order-of-record, put-answer, after-put, placed, taken, rewritten, rewrite-fits, record-set}
-use Rattle.tapes.specs.declared.cause.Cause.{Cause}
+use Rattle.books.specs.declared.queue.Put.the-variants.{Done}
+use Rattle.books.specs.Model.{Queues, at, with-at, rank-of, count, room, order-of-record, put-answer, after-put, placed, taken, rewritten, rewrite-fits, record-set}
 use Rattle.matching.specs.Model.{Floor, Event, enters, parks, bounces, misses, drops, trades, stays, fires, pulls, amends, recalls, Fate, gone, again, kept, fate, put-back, met, held, deal, happen}
-use Rattle.matching.specs.Next.{total, first-order, first-stop}
 use Rattle.laws.specs.Tally.{Place, stands, waits, incoming}
 use Rattle.laws.proofs.Lists.{length-taken, all-nth}
 use Rattle.laws.proofs.Rows.{Shows, renewed-shows}
-use Rattle.laws.proofs.Queues.{Low, Sided, Stop-sided, Good, Clear, Beyond, Same-place, at-own, good-cut, good-stop-cut, good-put, good-stop-put, good-set, clear-nth, clear-own, clear-beyond}
+use Rattle.laws.proofs.Queues.{Low, Sided, Stop-sided, Good, Clear, Beyond, Same-place, at-own, good-cut, good-stop-cut, good-put, good-stop-put, good-set, clear-nth, clear-beyond}
 use Rattle.laws.proofs.Sums.{Measure, queued, of-hand, over, everywhere, one-of, queued-cut, queued-stop-cut, queued-put, queued-stop-put, queued-set, put-done}
 
 -- a new order, wholly open, under the next stamp

@@ -1,17 +1,17 @@
 -- Each trade is fair by the tally that goes with the floor.
-use mathlib.Core.Path.{_≡_, refl, ap, sym, _∙_, subst}
+use mathlib.Core.Path.{_≡_, refl, sym, _∙_, subst}
 use mathlib.Core.Bool.{Bool, true, false, cond, _&&_, _||_}
 use mathlib.Core.List.{List, [], _∷_}
-use mathlib.Core.Logic.{_⊎_, inl, inr, ⊎-elim}
-use Prim.Native.Nat.{ℕ, suc, zero, _+_, _-_, _<_, _≤_}
+use mathlib.Core.Logic.{_⊎_, inl, inr}
+use Prim.Native.Nat.{ℕ, _+_, _<_}
 use native.Mathlib.Omega.{arith}
-use lib.Dec.{eqb, leb, ltb}
+use lib.Dec.{eqb}
 use Rattle.std.specs.shelf.Lists.{All}
 use Rattle.std.specs.shelf.Maps.{nth}
 use Rattle.std.proofs.shelf.Tests.{cond-true, both-ways, eq-eqb, or-left, or-right, leb-true, le-leb}
 use Rattle.std.proofs.shelf.Elements.{all-weaker}
 use Rattle.std.proofs.shelf.Ways.{tells}
-use Rattle.std.specs.declared.option.Option.the-variants.{Some, None}
+use Rattle.std.specs.declared.option.Option.the-variants.{Some}
 use Rattle.orders.specs.declared.side.Side.{Side}
 use Rattle.orders.specs.declared.side.Side.the-variants.{Buy, Sell}
 use Rattle.orders.specs.declared.price.Price.{Price}
@@ -26,15 +26,14 @@ use Rattle.orders.specs.Lots.{within}
 use Rattle.books.specs.Model.{Both, Queues, at, rank-of}
 use Rattle.matching.specs.Model.{Floor, Event, trades}
 use Rattle.matching.specs.Next.{total}
-use Rattle.laws.specs.Tally.{Place, stands, waits, incoming, Account, Tally, numbered, stands-on}
-use Rattle.laws.specs.Fair.{held-of, Foremost, Fair}
-use Rattle.laws.specs.Quiet.{Uncrossed}
+use Rattle.laws.specs.Tally.{stands, incoming, Account, Tally, stands-on}
+use Rattle.laws.specs.Fair.{Foremost, Fair}
 use Rattle.laws.proofs.Lists.{Sorted, before-itself, nth-first}
 use Rattle.laws.proofs.Queues.{Good, Low, Sided, Clear, clear-nth}
-use Rattle.laws.proofs.Sums.{Measure, everywhere, one-of}
-use Rattle.laws.proofs.Events.{Fits, Trades, Ready, taken-up, rest-side, one-itself}
+use Rattle.laws.proofs.Sums.{one-of}
+use Rattle.laws.proofs.Events.{Fits, Ready, taken-up, rest-side, one-itself}
 use Rattle.laws.proofs.Following.{Sane}
-use Rattle.laws.proofs.Tallies.{View, by-row, on-account, Matches, two-only, zero-one}
+use Rattle.laws.proofs.Tallies.{View, by-row, Matches, two-only, zero-one}
 use Rattle.laws.proofs.Firsts.{none-stands}
 
 -- who stands ahead of an order in the tally, counted

@@ -1,48 +1,47 @@
 -- An incoming order trades at least what it reaches, or all that it has.
 use mathlib.Core.Path.{_≡_, refl, ap, sym, _∙_, subst}
-use mathlib.Core.Bool.{Bool, true, false, cond, _&&_, _||_}
+use mathlib.Core.Bool.{Bool, true, false, cond, _&&_}
 use mathlib.Core.List.{List, [], _∷_, _++_}
-use mathlib.Core.Logic.{_⊎_, inl, inr, ⊎-elim}
+use mathlib.Core.Logic.{⊎-elim}
 use Prim.Native.Nat.{ℕ, suc, zero, _+_, _-_, _<_, _≤_, min}
 use native.Mathlib.Omega.{arith}
-use lib.Dec.{eqb, ltb}
+use lib.Dec.{eqb}
 use Rattle.std.specs.shelf.Lists.{All, removed}
 use Rattle.std.specs.shelf.Maps.{nth}
 use Rattle.std.specs.Options.{mapped}
 use Rattle.std.specs.declared.option.Option.{Option}
 use Rattle.std.specs.declared.option.Option.the-variants.{Some, None}
-use Rattle.std.proofs.shelf.Tests.{cond-both, cond-true, cond-false, both-ways, eqb-true, eqb-false, eq-eqb, ne-eqb, cases-lt}
+use Rattle.std.proofs.shelf.Tests.{cond-true, cond-false, both-ways, eq-eqb, ne-eqb, cases-lt}
 use Rattle.orders.specs.declared.side.Side.{Side}
 use Rattle.orders.specs.declared.side.Side.the-variants.{Buy, Sell}
 use Rattle.orders.specs.declared.price.Price.{Price}
 use Rattle.orders.specs.declared.order.Order.{Order}
-use Rattle.orders.specs.declared.order.Stop.{Stop}
 use Rattle.orders.specs.declared.row.OrderRow.{OrderRow}
 use Rattle.orders.specs.Sides.{other}
 use Rattle.orders.specs.Prices.{same-price}
-use Rattle.orders.specs.Lots.{renewed, lowered, within, same-investor}
+use Rattle.orders.specs.Lots.{renewed, within, same-investor}
 use Rattle.books.specs.Lists.{put-in}
-use Rattle.books.specs.declared.queue.Queue.the-variants.{Orders, Stops}
-use Rattle.books.specs.declared.queue.Record.the-variants.{Standing, Waiting}
-use Rattle.books.specs.Model.{Queues, at, rank-of, order-in, placed, taken}
+use Rattle.books.specs.declared.queue.Queue.the-variants.{Orders}
+use Rattle.books.specs.declared.queue.Record.the-variants.{Standing}
+use Rattle.books.specs.Model.{Queues, at, rank-of, order-in, taken}
 use Rattle.tapes.specs.declared.cause.Cause.the-variants.{OwnInvestor}
 use Rattle.tapes.specs.declared.line.Line.{Line}
-use Rattle.matching.specs.Model.{Floor, Event, enters, parks, bounces, misses, drops, trades, stays, fires, pulls, amends, recalls, Fate, gone, again, kept, fate, held, deal, happen}
-use Rattle.matching.specs.Next.{total, next, next-with, first-order, leftover, meets, settle, load, in-hand, weight, settled}
-use Rattle.matching.specs.Reach.{better, own, own-price, counts, open-lots, shown-ahead, reach-by, reach}
+use Rattle.matching.specs.Model.{Floor, Event, enters, parks, bounces, misses, drops, trades, stays, fires, pulls, amends, recalls, gone, again, kept, fate, deal, happen}
+use Rattle.matching.specs.Next.{total, next, next-with, leftover, meets, settle, in-hand, weight, settled}
+use Rattle.matching.specs.Reach.{own, own-price, counts, open-lots, shown-ahead, reach-by, reach}
 use Rattle.matching.proofs.Turns.{settle-next, lighter}
-use Rattle.laws.specs.Accounts.{counting, traded-lots, cancelled-lots, quantity-of}
+use Rattle.laws.specs.Accounts.{counting, traded-lots, quantity-of}
 use Rattle.laws.specs.Tally.{stands}
 use Rattle.laws.specs.Reaching.{worn}
 use Rattle.laws.specs.Smooth.{lines}
 use Rattle.laws.proofs.Lists.{Sorted}
 use Rattle.laws.proofs.Queues.{Good, Sided, at-own, beyond-first}
-use Rattle.laws.proofs.Sums.{Measure, everywhere}
+use Rattle.laws.proofs.Sums.{everywhere}
 use Rattle.laws.proofs.Rows.{renewed-row}
-use Rattle.laws.proofs.Events.{Fits, Trades, Single, after-fate, met-trade, rest-side}
-use Rattle.laws.proofs.Tapes.{tape, Roomy, tape-is}
+use Rattle.laws.proofs.Events.{Trades, Single, after-fate, met-trade, rest-side}
+use Rattle.laws.proofs.Tapes.{tape, tape-is}
 use Rattle.laws.proofs.Turning.{late, is-early}
-use Rattle.laws.proofs.Following.{Sane, sane-happen, Follows, Next, Leads, at-end, then, Enough, roomy-next, enough-next, settle-leads}
+use Rattle.laws.proofs.Following.{Sane, sane-happen, Follows, Leads, at-end, then, Enough, roomy-next, enough-next, settle-leads}
 use Rattle.laws.proofs.Reaches.{reach-beyond, reach-own, reach-worn}
 
 -- what is written stays written

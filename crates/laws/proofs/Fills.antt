@@ -1,29 +1,25 @@
 -- An entry that wants all trades whole or not at all, one with a minimum at least that or not at all; and what reach means, in every state of a run.
 use mathlib.Core.Path.{_≡_, refl, ap, sym, _∙_, subst}
 use mathlib.Core.Bool.{Bool, true, false, cond, _&&_, _||_}
-use mathlib.Core.List.{List, [], _∷_, _++_}
-use mathlib.Core.Logic.{_⊎_, inl, inr, ⊎-elim}
-use Prim.Native.Nat.{ℕ, suc, zero, _+_, _-_, _<_, _≤_, min}
+use mathlib.Core.List.{_++_}
+use mathlib.Core.Logic.{inl, inr}
+use Prim.Native.Nat.{ℕ, _+_, _≤_}
 use native.Mathlib.Omega.{arith}
 use lib.Dec.{eqb, ltb}
 use Rattle.std.specs.declared.option.Option.{Option}
 use Rattle.std.specs.declared.option.Option.the-variants.{Some, None}
 use Rattle.std.specs.declared.result.Result.{Result}
 use Rattle.std.specs.declared.result.Result.the-variants.{Ok, Err}
-use Rattle.std.proofs.shelf.Tests.{cond-both, cond-true, both-ways, or-parts, or-cases, ltb-false, eq-eqb, and-parts}
+use Rattle.std.proofs.shelf.Tests.{cond-both, cond-true, both-ways, or-parts, ltb-false, eq-eqb}
 use Rattle.orders.specs.declared.side.Validity.{Validity}
 use Rattle.orders.specs.declared.side.Validity.the-variants.{Day as ForDay, Gtc, Ioc, Fok}
 use Rattle.orders.specs.declared.price.Price.{Price}
 use Rattle.orders.specs.declared.order.Order.{Order}
-use Rattle.orders.specs.declared.order.Stop.{Stop}
 use Rattle.orders.specs.declared.row.OrderRow.{OrderRow}
 use Rattle.orders.specs.Sides.{other, fleeting}
-use Rattle.books.specs.declared.queue.Record.the-variants.{Waiting}
-use Rattle.books.specs.declared.queue.Put.{Put}
-use Rattle.books.specs.declared.queue.Put.the-variants.{Done, Full, Twice}
-use Rattle.books.specs.Model.{Queues, at, put-answer}
+use Rattle.books.specs.Model.{Queues, at}
 use Rattle.tapes.specs.declared.cause.Cause.{Cause}
-use Rattle.tapes.specs.declared.cause.Cause.the-variants.{ShortReach, NoPlace}
+use Rattle.tapes.specs.declared.cause.Cause.the-variants.{ShortReach}
 use Rattle.tapes.specs.Reels.{Reel}
 use Rattle.forms.specs.declared.form.EntryForm.{EntryForm}
 use Rattle.forms.specs.declared.form.Form.the-variants.{Entry}
@@ -32,27 +28,26 @@ use Rattle.forms.specs.declared.refusal.Refusal.the-variants.{Barred, WrongDay}
 use Rattle.matching.specs.declared.asked.Kind.{Kind}
 use Rattle.matching.specs.declared.asked.Kind.the-variants.{Limit, Market, StopLimit}
 use Rattle.matching.specs.declared.asked.Asked.{Asked}
-use Rattle.matching.specs.Model.{Floor, Event, enters, parks, bounces, misses, happen}
+use Rattle.matching.specs.Model.{Floor, Event, enters, bounces, misses, happen}
 use Rattle.matching.specs.Next.{total, first-order, settled}
 use Rattle.matching.specs.Reach.{reach}
-use Rattle.matching.specs.Entering.{order-from, all-or-none, short, judged, stop-from, parks-or-not, at-market, arrival-as, arrival, enter}
+use Rattle.matching.specs.Entering.{order-from, all-or-none, short, judged, at-market, arrival-as, enter}
 use Rattle.checks.specs.Cells.{andThen, blanks-first}
 use Rattle.checks.specs.Combos.{is-stop, disclosed-barred, barred}
 use Rattle.checks.specs.Entries.{wrong-blank, typed-entry, if-allowed, read-entry}
 use Rattle.venue.specs.declared.day.Day.{Day}
 use Rattle.venue.specs.declared.day.Day.the-variants.{Open, Closed}
 use Rattle.venue.specs.Steps.{answered, left-by, entry-told}
-use Rattle.venue.specs.Days.{State, floor-of, set-up, at-least-1, answer-on, step-on, answer, step}
-use Rattle.laws.specs.Accounts.{counting, quantity-of, traded-lots, cancelled-lots}
+use Rattle.venue.specs.Days.{State, floor-of, set-up, at-least-1, answer-on, step-on}
+use Rattle.laws.specs.Accounts.{quantity-of, traded-lots, cancelled-lots}
 use Rattle.laws.specs.Tally.{Tally, starting}
-use Rattle.laws.specs.Runs.{clock-of, after, tally-after}
+use Rattle.laws.specs.Runs.{clock-of, after}
 use Rattle.laws.specs.Smooth.{floor, lines}
 use Rattle.laws.specs.Reaching.{Reach-means, Filled, Always-filled}
-use Rattle.laws.proofs.Queues.{Low}
 use Rattle.laws.proofs.Rows.{order-from-row}
 use Rattle.laws.proofs.Events.{Fits}
-use Rattle.laws.proofs.Tapes.{tape, Roomy, tape-is}
-use Rattle.laws.proofs.Following.{Sane, sane-happen, Calm, calm-settled, Enough, Leads, settled-leads}
+use Rattle.laws.proofs.Tapes.{tape, tape-is}
+use Rattle.laws.proofs.Following.{sane-happen, Calm, calm-settled, settled-leads}
 use Rattle.laws.proofs.Arriving.{Proper, fits-arrival}
 use Rattle.laws.proofs.Supplies.{Supplied, Begins, roomy-begin, enough-begin, begins-arrival}
 use Rattle.laws.proofs.Reading.{In-ok, ok-then}

@@ -2,36 +2,33 @@
 use mathlib.Core.Path.{_≡_, refl, ap, sym, _∙_, subst}
 use mathlib.Core.Bool.{Bool, true, false, cond, _&&_}
 use mathlib.Core.List.{List, [], _∷_}
-use mathlib.Core.Logic.{_⊎_, inl, inr, ⊎-elim}
-use Prim.Native.Nat.{ℕ, suc, zero, _+_, _-_, _<_, _≤_}
+use mathlib.Core.Logic.{⊎-elim}
+use Prim.Native.Nat.{ℕ, _+_, _≤_}
 use native.Mathlib.Omega.{arith}
-use lib.Dec.{eqb, ltb}
 use Rattle.std.specs.shelf.Lists.{All}
-use Rattle.std.specs.shelf.Maps.{nth}
 use Rattle.std.specs.declared.option.Option.{Option}
 use Rattle.std.specs.declared.option.Option.the-variants.{Some, None}
-use Rattle.std.proofs.shelf.Tests.{cond-both, cond-true, cond-false, both-ways, eqb-true, eq-eqb, ne-eqb, cases-eq, le-ltb}
+use Rattle.std.proofs.shelf.Tests.{cond-both, cond-true, cond-false, both-ways, eq-eqb, ne-eqb, cases-eq, le-ltb}
 use Rattle.std.proofs.shelf.Ways.{tells}
 use Rattle.orders.specs.declared.side.Side.{Side}
 use Rattle.orders.specs.declared.side.Side.the-variants.{Buy, Sell}
 use Rattle.orders.specs.declared.price.Price.{Price}
 use Rattle.orders.specs.declared.order.Order.{Order}
-use Rattle.orders.specs.declared.order.Stop.{Stop}
 use Rattle.orders.specs.declared.row.OrderRow.{OrderRow}
 use Rattle.orders.specs.declared.rank.Rank.{Rank}
 use Rattle.orders.specs.Prices.{level, same-price}
 use Rattle.orders.specs.Ranks.{before, order-key}
 use Rattle.orders.specs.Rows.{row-of}
 use Rattle.orders.specs.Sides.{same-side}
-use Rattle.books.specs.Model.{Queues, at, rank-of}
+use Rattle.books.specs.Model.{at, rank-of}
 use Rattle.matching.specs.Model.{Floor}
 use Rattle.matching.specs.Next.{total}
 use Rattle.matching.specs.Reach.{better}
-use Rattle.laws.specs.Tally.{Place, stands, waits, incoming, Account, Tally, stands-on, better-of, first-price}
+use Rattle.laws.specs.Tally.{stands, waits, incoming, Account, Tally, stands-on, better-of, first-price}
 use Rattle.laws.proofs.Lists.{Sorted}
 use Rattle.laws.proofs.Queues.{Good, Low, Sided}
 use Rattle.laws.proofs.Sums.{Measure, of-hand, of-stop, everywhere}
-use Rattle.laws.proofs.Tallies.{View, by-row, on-account, seen, Matches, zero-one}
+use Rattle.laws.proofs.Tallies.{View, by-row, Matches, zero-one}
 
 zeros : {X : Type 0} (l : List X) → total (λ x. 0) l ≡ 0
 zeros [] = refl

@@ -1,18 +1,17 @@
 -- What is next fits, there is room for it, and so one event follows another until nothing is next.
 use mathlib.Core.Path.{_≡_, refl, ap, sym, _∙_, subst}
 use mathlib.Core.Bool.{Bool, true, false, cond}
-use mathlib.Core.List.{List, [], _∷_, _++_}
-use Prim.Native.Nat.{ℕ, suc, zero, _+_, _-_, _*_, _<_, _≤_}
+use mathlib.Core.List.{List, [], _∷_}
+use Prim.Native.Nat.{ℕ, suc, zero, _+_, _<_, _≤_}
 use native.Mathlib.Omega.{arith}
-use lib.Dec.{eqb, ltb}
+use lib.Dec.{ltb}
 use lib.ListN.{length, length-append}
 use Rattle.std.specs.shelf.Lists.{All}
 use Rattle.std.specs.shelf.Maps.{nth}
 use Rattle.std.specs.Options.{mapped, isSome}
 use Rattle.std.specs.declared.option.Option.{Option}
 use Rattle.std.specs.declared.option.Option.the-variants.{Some, None}
-use Rattle.std.proofs.shelf.Tests.{cond-both, ltb-true, both-ways}
-use Rattle.std.proofs.shelf.Elements.{all-weaker}
+use Rattle.std.proofs.shelf.Tests.{cond-both, ltb-true}
 use Rattle.orders.specs.declared.side.Side.{Side}
 use Rattle.orders.specs.declared.side.Side.the-variants.{Buy, Sell}
 use Rattle.orders.specs.declared.price.Price.{Price}
@@ -21,20 +20,19 @@ use Rattle.orders.specs.declared.order.Stop.{Stop}
 use Rattle.orders.specs.Ranks.{before, stop-key}
 use Rattle.orders.specs.Sides.{other, fleeting}
 use Rattle.orders.specs.Lots.{within, same-investor}
-use Rattle.books.specs.declared.queue.Queue.the-variants.{Orders, Stops}
 use Rattle.books.specs.declared.queue.Record.{Record}
 use Rattle.books.specs.declared.queue.Record.the-variants.{Standing, Waiting}
 use Rattle.books.specs.declared.queue.Put.{Put}
 use Rattle.books.specs.declared.queue.Put.the-variants.{Done, Full, Twice}
-use Rattle.books.specs.Model.{Queues, at, rank-of, stop-rank-of, count, room, queue-of, number-of, found, look-at, order-in, stop-in, put-answer}
-use Rattle.tapes.specs.declared.cause.Cause.the-variants.{Leftover, OwnInvestor, NoPlace}
+use Rattle.books.specs.Model.{Queues, at, rank-of, stop-rank-of, count, room, queue-of, number-of, found, order-in, stop-in, put-answer}
+use Rattle.tapes.specs.declared.cause.Cause.the-variants.{Leftover, OwnInvestor}
 use Rattle.matching.specs.Model.{Floor, Event, enters, parks, bounces, misses, drops, trades, stays, fires, pulls, amends, recalls, Fate, gone, again, kept, fate, deal, happen}
-use Rattle.matching.specs.Next.{next, next-with, first-order, first-stop, stands-or-not, leftover, meets, ripe, if-ripe, sooner, next-stop, firing, go-on, settle, weight, settled}
+use Rattle.matching.specs.Next.{next, next-with, first-stop, stands-or-not, leftover, meets, ripe, if-ripe, sooner, firing, settle, weight, settled}
 use Rattle.matching.proofs.Turns.{settle-next, settle-zero, lighter}
 use Rattle.laws.specs.Quiet.{Unripe}
 use Rattle.laws.proofs.Lists.{Sorted}
 use Rattle.laws.proofs.Queues.{Good, Sided, Stop-sided, Beyond, beyond-first, no-riper}
-use Rattle.laws.proofs.Events.{Fits, Ready, good-happen, ready-happen, Lies}
+use Rattle.laws.proofs.Events.{Fits, Ready, good-happen, ready-happen}
 use Rattle.laws.specs.Smooth.{lines, stamps, fate-draws}
 use Rattle.laws.proofs.Tapes.{tape, Roomy, tape-is, stamp-is, limit-is}
 use Rattle.laws.proofs.Sums.{everywhere}

@@ -1,16 +1,16 @@
 -- Lists in rank order: what a take, a put and a rewrite leave of sums, of what holds of each, and of the order.
 use mathlib.Core.Path.{_≡_, refl, ap, sym, _∙_, subst}
 use mathlib.Core.Bool.{Bool, true, false, cond, not}
-use mathlib.Core.List.{List, [], _∷_, _++_}
-use Prim.Native.Nat.{ℕ, suc, zero, _+_, _<_, _≤_}
+use mathlib.Core.List.{List, [], _∷_}
+use Prim.Native.Nat.{ℕ, suc, zero, _+_}
 use native.Mathlib.Omega.{arith}
 use lib.Dec.{eqb, ltb}
-use lib.ListN.{length, set, take, drop}
-use Rattle.std.specs.shelf.Lists.{All, removed, inserted, leading}
+use lib.ListN.{length, set}
+use Rattle.std.specs.shelf.Lists.{All, removed, inserted}
 use Rattle.std.specs.shelf.Maps.{nth}
 use Rattle.std.specs.declared.option.Option.{Option}
 use Rattle.std.specs.declared.option.Option.the-variants.{Some, None}
-use Rattle.std.proofs.shelf.Tests.{cond-both, both-ways, cond-false, le-ltb, eq-eqb}
+use Rattle.std.proofs.shelf.Tests.{cond-both, both-ways, cond-false, le-ltb}
 use Rattle.std.proofs.shelf.Elements.{all-weaker}
 use Rattle.std.proofs.shelf.Ways.{tells}
 use Rattle.orders.specs.declared.rank.Rank.{Rank}

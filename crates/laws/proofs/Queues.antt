@@ -1,16 +1,15 @@
 -- Good queues: within their capacities, in rank order, each record in the queue of its side, and no bid at or above an offer.
-use mathlib.Core.Path.{_≡_, refl, ap, sym, _∙_, subst}
-use mathlib.Core.Bool.{Bool, true, false, cond}
+use mathlib.Core.Path.{_≡_, refl, sym, subst}
+use mathlib.Core.Bool.{false}
 use mathlib.Core.List.{List, [], _∷_}
-use Prim.Native.Nat.{ℕ, suc, zero, _+_, _<_, _≤_}
+use Prim.Native.Nat.{ℕ, _<_, _≤_}
 use native.Mathlib.Omega.{arith}
 use lib.Dec.{leb}
 use lib.ListN.{length, set}
 use Rattle.std.specs.shelf.Lists.{All, removed}
 use Rattle.std.specs.shelf.Maps.{nth}
-use Rattle.std.specs.declared.option.Option.{Option}
-use Rattle.std.specs.declared.option.Option.the-variants.{Some, None}
-use Rattle.std.proofs.shelf.Tests.{cond-both, leb-false, leb-true, lt-leb, le-leb}
+use Rattle.std.specs.declared.option.Option.the-variants.{Some}
+use Rattle.std.proofs.shelf.Tests.{leb-false, lt-leb}
 use Rattle.std.proofs.shelf.Elements.{all-weaker}
 use Rattle.std.proofs.shelf.Ways.{tells}
 use Rattle.orders.specs.declared.side.Side.{Side}
@@ -26,7 +25,6 @@ use Rattle.orders.specs.Lots.{within}
 use Rattle.books.specs.Lists.{put-in}
 use Rattle.books.specs.declared.queue.Queue.{Queue}
 use Rattle.books.specs.declared.queue.Queue.the-variants.{Orders, Stops}
-use Rattle.books.specs.declared.queue.Record.{Record}
 use Rattle.books.specs.declared.queue.Record.the-variants.{Standing, Waiting}
 use Rattle.books.specs.Model.{Both, Queues, at, with-at, with-stands, with-waits, rank-of, stop-rank-of, count, room, placed, taken, record-set}
 use Rattle.laws.specs.Quiet.{Uncrossed}

@@ -5,11 +5,11 @@ use mathlib.Core.List.{List, [], _∷_}
 use mathlib.Core.Logic.{_⊎_, inl, inr, ⊎-elim}
 use Prim.Native.Nat.{ℕ, suc, zero, _+_, _-_, _<_, _≤_}
 use native.Mathlib.Omega.{arith}
-use lib.Dec.{eqb, ltb}
+use lib.Dec.{eqb}
 use Rattle.std.specs.shelf.Lists.{All}
 use Rattle.std.specs.declared.option.Option.{Option}
 use Rattle.std.specs.declared.option.Option.the-variants.{Some, None}
-use Rattle.std.proofs.shelf.Tests.{cond-both, cond-true, cond-false, both-ways, and-left, and-right, eqb-true, eqb-false, eq-eqb, ne-eqb, le-ltb, lt-ltb, cases-eq, cases-bool}
+use Rattle.std.proofs.shelf.Tests.{cond-both, cond-true, cond-false, both-ways, and-left, and-right, eqb-true, eqb-false, eq-eqb, lt-ltb, cases-eq}
 use Rattle.std.proofs.shelf.Ways.{tells}
 use Rattle.orders.specs.declared.side.Side.{Side}
 use Rattle.orders.specs.declared.side.Side.the-variants.{Buy, Sell}

@@ -1,7 +1,7 @@
 -- What the checks of a form give: an entry that is proper, a change within its ranges.
-use mathlib.Core.Path.{_≡_, refl, ap, sym, _∙_, subst}
-use mathlib.Core.Bool.{Bool, true, false, cond, _&&_, _||_}
-use Prim.Native.Nat.{ℕ, suc, zero, _+_, _-_, _*_, _<_, _≤_}
+use mathlib.Core.Path.{_≡_}
+use mathlib.Core.Bool.{false, _&&_, _||_}
+use Prim.Native.Nat.{ℕ, _≤_}
 use native.Mathlib.Omega.{arith}
 use lib.Dec.{leb, ltb}
 use Rattle.std.specs.Options.{valueOr}
@@ -9,18 +9,14 @@ use Rattle.std.specs.declared.option.Option.{Option}
 use Rattle.std.specs.declared.option.Option.the-variants.{Some, None}
 use Rattle.std.specs.declared.result.Result.{Result}
 use Rattle.std.specs.declared.result.Result.the-variants.{Ok, Err}
-use Rattle.std.proofs.shelf.Tests.{cond-both, and-parts, leb-true, leb-false, or-parts, ltb-false}
+use Rattle.std.proofs.shelf.Tests.{cond-both, and-parts, leb-true, or-parts}
 use Rattle.std.proofs.shelf.Ways.{tells}
 use Rattle.orders.specs.declared.price.Price.{Price}
-use Rattle.orders.specs.declared.side.Side.{Side}
-use Rattle.orders.specs.declared.side.Validity.{Validity}
-use Rattle.orders.specs.Prices.{level, listed}
+use Rattle.orders.specs.Prices.{listed}
 use Rattle.orders.specs.Sides.{fleeting}
 use Rattle.forms.specs.declared.form.EntryForm.{EntryForm}
 use Rattle.forms.specs.declared.form.ChangeForm.{ChangeForm}
 use Rattle.forms.specs.declared.refusal.Refusal.{Refusal}
-use Rattle.matching.specs.declared.asked.Kind.{Kind}
-use Rattle.matching.specs.declared.asked.Kind.the-variants.{Limit, Market, StopLimit}
 use Rattle.matching.specs.declared.asked.Asked.{Asked}
 use Rattle.matching.specs.declared.change.Change.{Change}
 use Rattle.checks.specs.declared.changes.ChangeAsked.{ChangeAsked}

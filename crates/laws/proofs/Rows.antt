@@ -1,23 +1,16 @@
 -- The rows that steps build keep the bounds, so each order is as it was meant.
 use mathlib.Core.Path.{_≡_, refl, ap, sym, _∙_}
-use mathlib.Core.Bool.{Bool, true, false, cond}
-use mathlib.Core.Logic.{_⊎_, inl, inr, ⊎-elim}
-use Prim.Native.Nat.{ℕ, suc, zero, _+_, _-_, _*_, _<_, _≤_, min}
+use Prim.Native.Nat.{ℕ, _-_, _*_, _<_, _≤_}
 use native.Mathlib.Omega.{arith}
-use lib.Dec.{eqb, ltb}
-use Rattle.std.specs.Options.{valueOr}
-use Rattle.std.proofs.shelf.Tests.{cases-eq, cond-both}
 use Rattle.orders.specs.declared.order.Order.{Order}
 use Rattle.orders.specs.declared.row.OrderRow.{OrderRow}
 use Rattle.orders.specs.declared.price.Price.{Price}
-use Rattle.orders.specs.Bounds.{keeps, Fits}
+use Rattle.orders.specs.Bounds.{Fits}
 use Rattle.orders.specs.Rows.{row-of, cut, order-of}
 use Rattle.orders.specs.Lots.{showing, with-lots, lowered, renewed}
 use Rattle.orders.proofs.Orders.{fits-from}
 use Rattle.matching.specs.declared.asked.Asked.{Asked}
-use Rattle.matching.specs.declared.change.Change.{Change}
 use Rattle.matching.specs.Entering.{order-from}
-use Rattle.matching.specs.Changing.{new-quantity, new-disclosed, new-leaves, traded, amended, recalled, changed}
 use Rattle.matching.proofs.Parts.{lowered-fits, renewed-fits, showing-0, showing-1, showing-some}
 
 -- a row within the bounds reads back

@@ -1,12 +1,12 @@
 -- Whole runs: the laws hold after setting up and after every step.
 use mathlib.Core.Path.{_≡_, refl, ap, sym, _∙_, subst}
 use mathlib.Core.List.{List, [], _∷_, _++_}
-use Prim.Native.Nat.{ℕ, suc, zero, _+_, _-_, _≤_}
+use Prim.Native.Nat.{ℕ, _+_, _-_, _≤_}
 use native.Mathlib.Omega.{arith}
 use native.Mathlib.Nat.{le-refl}
 use lib.ListN.{length, take, length-append}
 use Rattle.std.specs.declared.option.Option.{Option}
-use Rattle.std.specs.declared.option.Option.the-variants.{Some, None}
+use Rattle.std.specs.declared.option.Option.the-variants.{None}
 use Rattle.std.specs.declared.result.Result.{Result}
 use Rattle.std.specs.declared.result.Result.the-variants.{Ok, Err}
 use Rattle.std.proofs.shelf.Lists.{take-all, take-append-le}
@@ -25,11 +25,11 @@ use Rattle.venue.specs.declared.day.Day.{Day}
 use Rattle.venue.specs.declared.day.Day.the-variants.{Open, Closed}
 use Rattle.venue.specs.Rooms.{lines-free, needed}
 use Rattle.venue.specs.Steps.{opening-told, pull-daily, answered}
-use Rattle.venue.specs.Days.{State, floor-of, opened, closed, at-least-1, set-up, after-closing, after-opening, answer-on, step-on, answer, step}
-use Rattle.laws.specs.Tally.{Tally, noted, starting}
+use Rattle.venue.specs.Days.{State, floor-of, at-least-1, set-up, after-closing, after-opening, answer-on, step-on, answer, step}
+use Rattle.laws.specs.Tally.{Tally, starting}
 use Rattle.laws.specs.Fair.{Fair-lines}
 use Rattle.laws.specs.Runs.{clock-of, Lawful, Throughout, request, written, fed, tallied, Fair-throughout, after, tally-after, Upheld}
-use Rattle.laws.specs.Smooth.{floor, Course, Always-smooth}
+use Rattle.laws.specs.Smooth.{floor, Always-smooth}
 use Rattle.laws.proofs.Tapes.{tape}
 use Rattle.laws.proofs.Following.{Calm}
 use Rattle.laws.proofs.Tallies.{Matches}

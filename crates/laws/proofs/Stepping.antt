@@ -1,15 +1,11 @@
 -- A whole step: from a calm floor with its tally to a calm floor with its tally, all its trades fair.
-use mathlib.Core.Path.{_≡_, refl, ap, sym, _∙_, subst}
-use mathlib.Core.Bool.{Bool, true, false, cond}
-use mathlib.Core.List.{List, [], _∷_, _++_}
-use Prim.Native.Nat.{ℕ, suc, zero, _+_, _-_, _*_, _<_, _≤_}
+use mathlib.Core.Path.{_≡_}
+use Prim.Native.Nat.{ℕ}
 use native.Mathlib.Omega.{arith}
-use lib.ListN.{length}
 use Rattle.std.specs.shelf.Maps.{nth}
 use Rattle.std.specs.declared.option.Option.{Option}
-use Rattle.std.specs.declared.option.Option.the-variants.{Some, None}
+use Rattle.std.specs.declared.option.Option.the-variants.{Some}
 use Rattle.std.proofs.shelf.Tests.{cond-both}
-use Rattle.orders.specs.declared.side.Side.{Side}
 use Rattle.orders.specs.declared.order.Order.{Order}
 use Rattle.orders.specs.declared.price.Price.{Price}
 use Rattle.books.specs.declared.queue.Record.the-variants.{Standing}
@@ -21,12 +17,11 @@ use Rattle.matching.specs.Model.{Floor, Event, amends, recalls, happen}
 use Rattle.matching.specs.Next.{settled}
 use Rattle.matching.specs.Entering.{arrival, enter}
 use Rattle.matching.specs.Changing.{loses-turn, amended, recalled, change-at}
-use Rattle.laws.specs.Tally.{Tally, Request, entry, change, noted, at-ease}
-use Rattle.laws.proofs.Events.{Fits}
+use Rattle.laws.specs.Tally.{Tally, Request, entry, change, noted}
 use Rattle.laws.specs.Smooth.{lines, Course, ended, then}
 use Rattle.laws.proofs.Courses.{smooth, settled-course, well-arrival}
-use Rattle.laws.proofs.Tapes.{tape, Roomy}
-use Rattle.laws.proofs.Following.{Sane, sane-happen, Calm, calm-settled}
+use Rattle.laws.proofs.Tapes.{Roomy}
+use Rattle.laws.proofs.Following.{sane-happen, Calm, calm-settled}
 use Rattle.laws.proofs.Tallies.{Matches}
 use Rattle.laws.proofs.Arriving.{Proper, fits-arrival, untraded-arrival, match-arrival}
 use Rattle.laws.proofs.Changing.{Permitted, fits-recalls, fits-amends, match-amends, match-recalls}

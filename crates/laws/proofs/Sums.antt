@@ -1,14 +1,14 @@
 -- Sums over all orders, wherever they are: what a take, a put and a rewrite do to them.
-use mathlib.Core.Path.{_≡_, refl, ap, sym, _∙_, subst}
-use mathlib.Core.Bool.{Bool, true, false, cond}
+use mathlib.Core.Path.{_≡_, refl, ap, _∙_}
+use mathlib.Core.Bool.{cond}
 use mathlib.Core.List.{List, [], _∷_}
-use Prim.Native.Nat.{ℕ, suc, zero, _+_, _<_, _≤_}
+use Prim.Native.Nat.{ℕ, _+_, _<_, _≤_}
 use native.Mathlib.Omega.{arith}
-use lib.Dec.{eqb, ltb}
-use lib.ListN.{length, set}
+use lib.Dec.{ltb}
+use lib.ListN.{set}
 use Rattle.std.specs.shelf.Lists.{removed}
 use Rattle.std.specs.shelf.Maps.{nth}
-use Rattle.std.specs.Options.{isSome, mapped, orOther}
+use Rattle.std.specs.Options.{isSome}
 use Rattle.std.specs.declared.option.Option.{Option}
 use Rattle.std.specs.declared.option.Option.the-variants.{Some, None}
 use Rattle.std.proofs.shelf.Tests.{cond-true, lt-ltb}
@@ -16,14 +16,13 @@ use Rattle.orders.specs.declared.side.Side.{Side}
 use Rattle.orders.specs.declared.side.Side.the-variants.{Buy, Sell}
 use Rattle.orders.specs.declared.order.Order.{Order}
 use Rattle.orders.specs.declared.order.Stop.{Stop}
-use Rattle.books.specs.Lists.{put-in, first-number}
+use Rattle.books.specs.Lists.{put-in}
 use Rattle.books.specs.declared.queue.Queue.{Queue}
 use Rattle.books.specs.declared.queue.Queue.the-variants.{Orders, Stops}
 use Rattle.books.specs.declared.queue.Record.{Record}
 use Rattle.books.specs.declared.queue.Record.the-variants.{Standing, Waiting}
-use Rattle.books.specs.declared.queue.Put.{Put}
 use Rattle.books.specs.declared.queue.Put.the-variants.{Done, Full, Twice}
-use Rattle.books.specs.Model.{Both, Queues, at, with-at, with-stands, with-waits, rank-of, stop-rank-of, count, room, queue-of, number-of, found, put-answer, placed, taken, record-set}
+use Rattle.books.specs.Model.{Queues, at, with-stands, with-waits, rank-of, stop-rank-of, count, room, queue-of, number-of, found, put-answer, placed, taken, record-set}
 use Rattle.matching.specs.Model.{Floor}
 use Rattle.matching.specs.Next.{total}
 use Rattle.laws.specs.Tally.{Place, stands, waits, incoming}

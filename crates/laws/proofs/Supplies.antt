@@ -1,33 +1,30 @@
 -- Twenty free lines and twenty undrawn stamps for each record and one more are enough.
-use mathlib.Core.Path.{_≡_, refl, ap, sym, _∙_, subst}
-use mathlib.Core.Bool.{Bool, true, false, cond}
-use mathlib.Core.List.{List, [], _∷_, _++_}
-use Prim.Native.Nat.{ℕ, suc, zero, _+_, _-_, _*_, _<_, _≤_}
+use mathlib.Core.Path.{_≡_, ap, _∙_}
+use mathlib.Core.List.{List, [], _∷_}
+use Prim.Native.Nat.{ℕ, suc, _+_, _*_, _≤_}
 use native.Mathlib.Omega.{arith}
 use lib.ListN.{length, length-append}
-use Rattle.std.specs.shelf.Lists.{removed}
 use Rattle.std.specs.shelf.Maps.{nth}
 use Rattle.std.specs.declared.option.Option.{Option}
 use Rattle.std.specs.declared.option.Option.the-variants.{Some, None}
 use Rattle.std.proofs.shelf.Tests.{cond-both}
 use Rattle.orders.specs.declared.side.Side.{Side}
 use Rattle.orders.specs.declared.side.Side.the-variants.{Buy, Sell}
-use Rattle.orders.specs.declared.price.Price.{Price}
 use Rattle.orders.specs.declared.order.Order.{Order}
 use Rattle.orders.specs.declared.order.Stop.{Stop}
 use Rattle.orders.specs.Sides.{other}
 use Rattle.books.specs.Lists.{put-in}
-use Rattle.books.specs.declared.queue.Queue.the-variants.{Orders, Stops}
-use Rattle.books.specs.declared.queue.Record.the-variants.{Standing, Waiting}
+use Rattle.books.specs.declared.queue.Queue.the-variants.{Orders}
+use Rattle.books.specs.declared.queue.Record.the-variants.{Waiting}
 use Rattle.books.specs.declared.queue.Put.{Put}
 use Rattle.books.specs.declared.queue.Put.the-variants.{Done, Full, Twice}
-use Rattle.books.specs.Model.{Queues, at, with-stands, with-waits, stop-rank-of, placed, taken, put-answer}
-use Rattle.tapes.specs.declared.cause.Cause.the-variants.{ShortReach, NoPlace}
+use Rattle.books.specs.Model.{Queues, at, with-waits, stop-rank-of, taken, put-answer}
+use Rattle.tapes.specs.declared.cause.Cause.the-variants.{ShortReach}
 use Rattle.matching.specs.declared.asked.Kind.{Kind}
 use Rattle.matching.specs.declared.asked.Kind.the-variants.{Limit, Market, StopLimit}
 use Rattle.matching.specs.declared.asked.Asked.{Asked}
 use Rattle.matching.specs.Model.{Floor, Event, enters, parks, bounces, misses, drops, trades, stays, fires, pulls, amends, recalls, happen}
-use Rattle.matching.specs.Next.{total, parts, in-hand, load, weight, first-order}
+use Rattle.matching.specs.Next.{total, parts, load, weight, first-order}
 use Rattle.matching.specs.Entering.{order-from, short, judged, stop-from, parks-or-not, at-market, arrival-as, arrival}
 use Rattle.matching.proofs.Parts.{parts-most}
 use Rattle.venue.specs.Rooms.{records, needed}

@@ -1,8 +1,8 @@
 -- Removals: each pull leaves a calm floor, and the tally notes it.
-use mathlib.Core.Path.{_≡_, refl, ap, sym, _∙_, subst}
-use mathlib.Core.Bool.{Bool, true, false, cond}
-use mathlib.Core.List.{List, [], _∷_, _++_, append-assoc}
-use Prim.Native.Nat.{ℕ, suc, zero, _+_, _-_, _*_, _<_, _≤_}
+use mathlib.Core.Path.{_≡_, refl, ap, sym, _∙_}
+use mathlib.Core.Bool.{false}
+use mathlib.Core.List.{List, [], _++_, append-assoc}
+use Prim.Native.Nat.{ℕ, suc, zero, _+_, _≤_}
 use native.Mathlib.Omega.{arith}
 use lib.ListN.{length, length-append}
 use Rattle.std.specs.shelf.Lists.{All, removed}
@@ -36,9 +36,9 @@ use Rattle.laws.proofs.Events.{Fits, Lies}
 use Rattle.laws.specs.Smooth.{lines, Course, ended, then}
 use Rattle.laws.proofs.Courses.{course-++, smooth}
 use Rattle.laws.proofs.Tapes.{tape, Roomy, tape-is, limit-is}
-use Rattle.laws.proofs.Following.{Sane, sane-happen, Calm}
-use Rattle.laws.proofs.Tallies.{Matches, match-pulls, match-idle}
-use Rattle.laws.proofs.Telling.{noted-++, fair-++, Tells, with-match}
+use Rattle.laws.proofs.Following.{sane-happen, Calm}
+use Rattle.laws.proofs.Tallies.{Matches, match-pulls}
+use Rattle.laws.proofs.Telling.{noted-++, fair-++}
 
 pub look-lies : (n : Queue) (i : ℕ) (r : Record) (q : Queues) → look-at n i q ≡ Some r → Lies n i r q
 look-lies (Orders s) i r q e = go (nth (at s (q .stands)) i) refl e

@@ -1,8 +1,8 @@
 -- The tally goes with the floor, event by event: every sum over its accounts is the sum over the orders of the floor.
 use mathlib.Core.Path.{_≡_, refl, ap, sym, _∙_, subst}
-use mathlib.Core.Bool.{Bool, true, false, cond, not, _&&_, _||_}
-use mathlib.Core.List.{List, [], _∷_, _++_}
-use Prim.Native.Nat.{ℕ, suc, zero, _+_, _-_, _<_, _≤_, min}
+use mathlib.Core.Bool.{Bool, true, false, cond, _||_}
+use mathlib.Core.List.{List, [], _∷_}
+use Prim.Native.Nat.{ℕ, _+_, _-_, _<_, _≤_}
 use native.Mathlib.Omega.{arith}
 use lib.Dec.{eqb}
 use Rattle.std.specs.declared.option.Option.{Option}
@@ -13,23 +13,20 @@ use Rattle.orders.specs.declared.order.Order.{Order}
 use Rattle.orders.specs.declared.order.Stop.{Stop}
 use Rattle.orders.specs.declared.row.OrderRow.{OrderRow}
 use Rattle.orders.specs.Rows.{row-of}
-use Rattle.orders.specs.Lots.{showing, with-lots, lowered, renewed}
+use Rattle.orders.specs.Lots.{renewed}
 use Rattle.books.specs.declared.queue.Queue.{Queue}
-use Rattle.books.specs.declared.queue.Queue.the-variants.{Orders, Stops}
 use Rattle.books.specs.declared.queue.Record.{Record}
 use Rattle.books.specs.Model.{Queues, order-of-record}
 use Rattle.tapes.specs.declared.cause.Cause.{Cause}
-use Rattle.matching.specs.Model.{Floor, Event, enters, parks, bounces, misses, drops, trades, stays, fires, pulls, amends, recalls, Fate, gone, again, kept, fate, held, deal, happen}
+use Rattle.matching.specs.Model.{Floor, Event, drops, trades, stays, fires, pulls, Fate, gone, again, kept, fate, held, deal, happen}
 use Rattle.matching.specs.Next.{total}
-use Rattle.laws.specs.Accounts.{counting}
-use Rattle.laws.specs.Tally.{Place, stands, waits, incoming, Account, Tally, account, kept-if, adjust, only, numbered, row-with, standing, shown-anew, less, ran-out, refilled, if-open, take-off, draws, stood, at-ease, released, note-release, note-trade, note-cancel}
-use Rattle.laws.proofs.Queues.{Good}
-use Rattle.laws.proofs.Sums.{Measure, queued, of-hand, over, everywhere, over-le, over-plus, over-agree, one-of}
+use Rattle.laws.specs.Tally.{Place, stands, waits, incoming, Account, Tally, account, kept-if, adjust, only, numbered, row-with, less, ran-out, refilled, take-off, stood, at-ease, released, note-release, note-trade, note-cancel}
+use Rattle.laws.proofs.Sums.{Measure, of-hand, over, everywhere, over-plus, over-agree, one-of}
 use Rattle.laws.proofs.Rows.{Shows, renewed-row, lowered-row}
-use Rattle.laws.proofs.Events.{Fits, of-fate, going, coming, rest-queues, resting, taken-up, put-down, Single, one-itself, Ready, place}
-use Rattle.laws.specs.Smooth.{fate-draws, stamps}
+use Rattle.laws.proofs.Events.{Fits, of-fate, going, coming, rest-queues, resting, taken-up, put-down, one-itself, Ready, place}
+use Rattle.laws.specs.Smooth.{fate-draws}
 use Rattle.laws.proofs.Tapes.{Roomy, stamp-is}
-use Rattle.laws.proofs.Counts.{Counts, by-number, rest-other}
+use Rattle.laws.proofs.Counts.{by-number, rest-other}
 use Rattle.laws.proofs.Following.{Sane}
 
 -- an order as the tally has it: only an order that stands shows lots

@@ -1,22 +1,19 @@
 -- What an event writes and how many stamps it draws, where there is room.
-use mathlib.Core.Path.{_≡_, refl, ap, sym, _∙_, subst}
-use mathlib.Core.Bool.{Bool, true, false, cond}
-use mathlib.Core.List.{List, [], _∷_, _++_}
-use Prim.Native.Nat.{ℕ, suc, zero, _+_, _-_, _<_, _≤_}
+use mathlib.Core.Path.{_≡_, refl, ap, _∙_}
+use mathlib.Core.List.{List, _∷_, _++_}
+use Prim.Native.Nat.{ℕ, suc, _+_, _<_, _≤_}
 use native.Mathlib.Omega.{arith}
-use lib.Dec.{eqb, ltb}
+use lib.Dec.{ltb}
 use lib.ListN.{length}
-use Rattle.std.specs.declared.option.Option.{Option}
-use Rattle.std.specs.declared.option.Option.the-variants.{Some, None}
+use Rattle.std.specs.declared.option.Option.the-variants.{None}
 use Rattle.std.proofs.shelf.Tests.{cond-true, lt-ltb}
-use Rattle.orders.specs.declared.order.Order.{Order}
 use Rattle.books.specs.Model.{order-of-record}
 use Rattle.tapes.specs.declared.line.Line.{Line}
-use Rattle.tapes.specs.declared.line.Line.the-variants.{Entered, Replaced, Released, Traded, Cancelled}
+use Rattle.tapes.specs.declared.line.Line.the-variants.{Entered, Cancelled}
 use Rattle.tapes.specs.declared.cause.Cause.the-variants.{NoOpposite}
 use Rattle.tapes.specs.Reels.{Reel, written}
 use Rattle.matching.specs.declared.clock.Clock.{Clock}
-use Rattle.matching.specs.Clocks.{later, drawn}
+use Rattle.matching.specs.Clocks.{later}
 use Rattle.laws.specs.Smooth.{lines, fate-draws, stamps}
 use Rattle.matching.specs.Model.{Floor, Event, enters, parks, bounces, misses, drops, trades, stays, fires, pulls, amends, recalls, Fate, gone, again, kept, fate, deal, drawn-by, happen, line-A, line-R, line-S, line-C, line-T}
 

@@ -1,22 +1,19 @@
 -- Every turn is below the next stamp.
-use mathlib.Core.Path.{_≡_, refl, ap, sym, _∙_, subst}
-use mathlib.Core.Bool.{Bool, true, false, cond}
-use Prim.Native.Nat.{ℕ, suc, zero, _+_, _-_, _<_, _≤_}
+use mathlib.Core.Path.{_≡_, refl, ap, sym, subst}
+use mathlib.Core.Bool.{cond}
+use Prim.Native.Nat.{ℕ, _+_, _<_, _≤_}
 use native.Mathlib.Omega.{arith}
 use lib.Dec.{eqb, ltb}
-use Rattle.std.specs.shelf.Maps.{nth}
-use Rattle.std.specs.declared.option.Option.{Option}
 use Rattle.std.specs.declared.option.Option.the-variants.{Some, None}
-use Rattle.std.proofs.shelf.Tests.{cond-both, cond-true, ltb-true, ltb-false, lt-ltb}
+use Rattle.std.proofs.shelf.Tests.{cond-both, cond-true, ltb-true, lt-ltb}
 use Rattle.orders.specs.declared.order.Order.{Order}
 use Rattle.orders.specs.Lots.{lowered, renewed}
-use Rattle.books.specs.declared.queue.Queue.the-variants.{Orders, Stops}
 use Rattle.matching.specs.Model.{Floor, Event, enters, parks, bounces, misses, drops, trades, stays, fires, pulls, amends, recalls, Fate, gone, again, kept, fate, held, deal, happen}
 use Rattle.laws.specs.Tally.{Place, stands, waits, incoming}
 use Rattle.laws.specs.Smooth.{stamps, fate-draws}
 use Rattle.laws.proofs.Queues.{Good}
-use Rattle.laws.proofs.Sums.{Measure, of-hand, over, everywhere, over-le}
-use Rattle.laws.proofs.Events.{Fits, of-fate, going, coming, rest-queues, resting, taken-up, put-down, Single}
+use Rattle.laws.proofs.Sums.{Measure, of-hand, everywhere, over-le}
+use Rattle.laws.proofs.Events.{Fits, of-fate, going, coming, rest-queues, taken-up, put-down, Single}
 use Rattle.laws.proofs.Tapes.{Roomy, stamp-is}
 
 -- 1 for an order whose turn is yet to come

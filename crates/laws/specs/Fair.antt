@@ -1,9 +1,9 @@
 -- No trade passes a limit or a turn, by the tally as it is just before the trade line.
 use mathlib.Core.Path.{_≡_}
-use mathlib.Core.Bool.{Bool, true, false, cond}
+use mathlib.Core.Bool.{true, false, cond}
 use mathlib.Core.List.{List, [], _∷_}
 use mathlib.Core.Logic.{_⊎_}
-use Prim.Native.Nat.{ℕ, _≤_}
+use Prim.Native.Nat.{ℕ}
 use Rattle.std.specs.shelf.Lists.{All}
 use Rattle.orders.specs.declared.price.Price.{Price}
 use Rattle.orders.specs.declared.row.OrderRow.{OrderRow}
@@ -12,7 +12,7 @@ use Rattle.orders.specs.Lots.{within}
 use Rattle.tapes.specs.declared.line.Line.{Line}
 use Rattle.tapes.specs.declared.line.Line.the-variants.{Entered, Replaced, Released, Traded, Cancelled}
 use Rattle.matching.specs.Next.{total}
-use Rattle.laws.specs.Tally.{Account, Tally, Request, numbered, stands-on, noted}
+use Rattle.laws.specs.Tally.{Tally, Request, numbered, stands-on, noted}
 
 -- how many accounts of the tally are of this number
 abbrev pub held-of : ℕ → Tally → ℕ

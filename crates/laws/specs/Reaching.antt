@@ -1,12 +1,11 @@
 -- What reach means: the lots that an order of that side, limit and investor, and without end, would trade at once.
 use mathlib.Core.Path.{_≡_}
-use mathlib.Core.Bool.{Bool, true, false, cond}
+use mathlib.Core.Bool.{true, cond}
 use mathlib.Core.List.{List, [], _∷_}
 use mathlib.Core.Logic.{_⊎_}
 use Prim.Native.Nat.{ℕ, zero, suc, _+_, _≤_}
 use lib.Dec.{eqb}
 use Rattle.std.specs.declared.result.Result.the-variants.{Ok}
-use Rattle.orders.specs.declared.side.Side.{Side}
 use Rattle.orders.specs.declared.order.Order.{Order}
 use Rattle.orders.specs.Sides.{other}
 use Rattle.orders.specs.Lots.{renewed, within, same-investor}

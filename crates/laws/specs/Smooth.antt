@@ -2,10 +2,10 @@
 -- and every order is within its bounds.
 --   course   events, one after another, from the floor before a step to the floor after it
 use mathlib.Core.Path.{_≡_}
-use mathlib.Core.Bool.{Bool, true, false}
+use mathlib.Core.Bool.{true, false}
 use mathlib.Core.List.{List, [], _∷_, _++_}
 use Prim.Native.Nat.{ℕ, _+_, _-_, _<_, min}
-use Rattle.std.specs.declared.option.Option.the-variants.{Some, None}
+use Rattle.std.specs.declared.option.Option.the-variants.{None}
 use Rattle.std.specs.declared.result.Result.the-variants.{Ok}
 use Rattle.orders.specs.declared.price.Price.{Price}
 use Rattle.orders.specs.declared.order.Order.{Order}

@@ -1,17 +1,15 @@
 -- The laws can be broken: for each a small tape, tally or book that breaks it.
-use mathlib.Core.Path.{_≡_}
-use mathlib.Core.List.{List, [], _∷_}
+use mathlib.Core.List.{[], _∷_}
 use Prim.Native.Nat.{ℕ}
-use Rattle.std.specs.declared.option.Option.the-variants.{Some, None}
+use Rattle.std.specs.declared.option.Option.the-variants.{Some}
 use Rattle.orders.specs.declared.side.Side.{Side}
 use Rattle.orders.specs.declared.side.Side.the-variants.{Buy, Sell}
 use Rattle.orders.specs.declared.side.Validity.the-variants.{Day}
 use Rattle.orders.specs.declared.price.Price.{Price}
 use Rattle.orders.specs.declared.row.OrderRow.{OrderRow}
 use Rattle.orders.specs.Rows.{order-of}
-use Rattle.books.specs.Model.{Both, Queues}
+use Rattle.books.specs.Model.{Queues}
 use Rattle.tapes.specs.declared.cause.Cause.the-variants.{Asked}
-use Rattle.tapes.specs.declared.line.Line.{Line}
 use Rattle.tapes.specs.declared.line.Line.the-variants.{Entered, Traded, Cancelled}
 use Rattle.laws.specs.Accounts.{Balanced}
 use Rattle.laws.specs.Quiet.{Uncrossed, Unripe}
