@@ -66,7 +66,7 @@ use Rattle.laws.proofs.Changing.{Permitted}
 use Rattle.laws.proofs.Supplies.{Supplied}
 use Rattle.laws.proofs.Sweeping.{Spare, look-lies, one-pull, removals-swept}
 use Rattle.laws.proofs.Stepping.{Goes, goes-swept, goes-enter, goes-change}
-use Rattle.laws.proofs.Reading.{In-ok, In-some, ok-then, entry-ok, Within-ranges, change-ok, allowed-from}
+use Rattle.laws.proofs.Reading.{In-ok, In-some, ok-then, entry-ok, Within-ranges, change-ok, allowed-from, any-ok}
 
 -- what a step leaves, by its answer
 pub record Ends (form : Form) (t : Tally) (f : Floor) (r : Result (Unit {0}) Refusal) (g : Floor) : Type 0 where
@@ -105,10 +105,6 @@ lines-ok f = cond-both (ltb (free (f .reel)) (needed (f .queues))) (Err TapeFull
 
 stamps-ok : (f : Floor) → In-ok (λ _. f .clock .stamp + needed (f .queues) ≤ 1000000000) (stamps-free (f .queues) (f .clock))
 stamps-ok f = cond-both (ltb (undrawn (f .clock)) (needed (f .queues))) (Err NoStamps) (Ok tt) (In-ok (λ _. f .clock .stamp + needed (f .queues) ≤ 1000000000)) (λ _. tt) (λ e. omega (arith, ltb-false (undrawn (f .clock)) (needed (f .queues)) e))
-
-any-ok : {A : Type 0} (r : Result A Refusal) → In-ok (λ _. Unit {0}) r
-any-ok (Ok x) = tt
-any-ok (Err e) = tt
 
 abbrev Looks : Queues → Found → Type 0
 Looks q x = look-at (x .queue) (x .at) q ≡ Some (x .«record»)

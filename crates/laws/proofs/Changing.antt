@@ -9,7 +9,6 @@ use Rattle.std.specs.declared.option.Option.{Option}
 use Rattle.std.specs.declared.option.Option.the-variants.{Some}
 use Rattle.std.proofs.shelf.Tests.{cond-true, cond-false, or-parts, not-false, eqb-true, eq-eqb, ltb-false}
 use Rattle.orders.specs.declared.side.Side.{Side}
-use Rattle.orders.specs.declared.price.Price.{Price}
 use Rattle.orders.specs.declared.order.Order.{Order}
 use Rattle.orders.specs.declared.row.OrderRow.{OrderRow}
 use Rattle.orders.specs.Prices.{level, same-price}
@@ -20,7 +19,7 @@ use Rattle.matching.specs.declared.change.Change.{Change}
 use Rattle.matching.specs.Model.{Floor, Event, amends, recalls, happen}
 use Rattle.matching.specs.Changing.{new-price, new-quantity, new-disclosed, new-leaves, traded, loses-turn, amended, recalled}
 use Rattle.laws.specs.Tally.{stands, incoming, Account, Tally, account, only, numbered, changed-row, costs-turn, after-change, note-change, change}
-use Rattle.laws.proofs.Queues.{Low}
+use Rattle.laws.proofs.Queues.{Low, price-same}
 use Rattle.laws.proofs.Sums.{Measure, of-hand, one-of}
 use Rattle.laws.proofs.Rows.{Allowed, reads, anew-fits}
 use Rattle.laws.proofs.Events.{Changes, Fits, going, one-itself}
@@ -53,12 +52,6 @@ keeps-turn c o e =
       fewer = ltb-false (o .quantity) (new-quantity c o) (b .0);
       disclosed = eqb-true (new-disclosed c o) (o .disclosed) (not-false (eqb (new-disclosed c o) (o .disclosed)) (b .1));
     }
-  where
-    as-price : ℕ → Price
-    as-price n = record { hundredths = n }
-
-    price-same : (p q : Price) → level p ≡ level q → p ≡ q
-    price-same p q e = ap as-price e
 
 pub amended-row : (c : Change) (o : Order) → Permitted c o → loses-turn c o ≡ false → row-of (amended c o) ≡ changed-row c (o .turn) (min (o .shown) (new-leaves c o)) (row-of o)
 amended-row c o p e =

@@ -13,7 +13,6 @@ use Rattle.std.specs.declared.option.Option.the-variants.{Some, None}
 use Rattle.std.proofs.shelf.Tests.{cond-both, cond-true, eqb-false, eq-eqb}
 use Rattle.std.proofs.shelf.Ways.{tells}
 use Rattle.orders.specs.declared.side.Side.{Side}
-use Rattle.orders.specs.declared.side.Side.the-variants.{Buy, Sell}
 use Rattle.orders.specs.declared.order.Order.{Order}
 use Rattle.orders.specs.declared.order.Stop.{Stop}
 use Rattle.orders.specs.declared.rank.Rank.{Rank}
@@ -27,12 +26,12 @@ use Rattle.books.specs.declared.queue.Record.{Record}
 use Rattle.books.specs.declared.queue.Record.the-variants.{Standing, Waiting}
 use Rattle.books.specs.declared.queue.Put.{Put}
 use Rattle.books.specs.declared.queue.Put.the-variants.{Done}
-use Rattle.books.specs.Model.{Queues, at, with-at, rank-of, count, room, order-of-record, put-answer, after-put, placed, taken, rewritten, rewrite-fits, record-set}
+use Rattle.books.specs.Model.{Queues, at, rank-of, count, room, order-of-record, put-answer, after-put, placed, taken, rewritten, rewrite-fits, record-set}
 use Rattle.matching.specs.Model.{Floor, Event, enters, parks, bounces, misses, drops, trades, stays, fires, pulls, amends, recalls, Fate, gone, again, kept, fate, put-back, met, held, deal, happen}
 use Rattle.laws.specs.Tally.{Place, stands, waits, incoming}
 use Rattle.laws.proofs.Lists.{length-taken, all-nth}
 use Rattle.laws.proofs.Rows.{Shows, renewed-shows}
-use Rattle.laws.proofs.Queues.{Low, Sided, Stop-sided, Good, Clear, Beyond, Same-place, at-own, good-cut, good-stop-cut, good-put, good-stop-put, good-set, clear-nth, clear-beyond}
+use Rattle.laws.proofs.Queues.{Low, Sided, Stop-sided, Good, Beyond, Same-place, at-own, good-cut, good-stop-cut, good-put, good-stop-put, good-set, clear-nth, clear-beyond, same-clear, same-order-rank, clear-own}
 use Rattle.laws.proofs.Sums.{Measure, queued, of-hand, over, everywhere, one-of, queued-cut, queued-stop-cut, queued-put, queued-stop-put, queued-set, put-done}
 
 -- a new order, wholly open, under the next stamp
@@ -260,11 +259,8 @@ put-down g (fires z x) f h k s = omega arith
 put-down g (pulls c n i r) f h k s = let m : of-hand (g incoming) (f .hand) ≡ 0 = ap (of-hand (g incoming)) (h .0) in omega arith
 put-down g (amends i o) f h k s =
     let m : of-hand (g incoming) (f .hand) ≡ 0 = ap (of-hand (g incoming)) (h .0 .idle) in
-    let a : queued g (rewritten i (Standing o) (f .queues)) ≡ queued g (record-set i (Standing o) (f .queues)) = ap (queued g) (rewrites i (h .0 .was) o (f .queues) (h .0 .there) (rank-same (h .0 .was) o (h .1))) in
+    let a : queued g (rewritten i (Standing o) (f .queues)) ≡ queued g (record-set i (Standing o) (f .queues)) = ap (queued g) (rewrites i (h .0 .was) o (f .queues) (h .0 .there) (sym (same-order-rank (h .0 .was) o (h .1)))) in
     omega (arith, queued-set g i (h .0 .was) o (f .queues) (h .0 .there))
-  where
-    rank-same : (x o : Order) → Same-place x o → rank-of x ≡ rank-of o
-    rank-same x o h = rw (h .side, h .price, h .turn, h .number) refl
 put-down g (recalls z i o) f h k s = omega arith
 
 -- each event leaves good queues
@@ -277,11 +273,7 @@ good-fate again lots stamp r q e g =
     let l : List Order = removed (at s (q .stands)) 0 in
     good-put (renewed stamp lots r) (taken (Orders s) 0 q)
     (omega (arith, ap (λ l. suc (length l)) (at-own s l (q .stands)), length-taken (at s (q .stands)) 0 r e, g .bounded (Orders s)))
-    (all-nth (Sided s) (at s (q .stands)) 0 r e (g .sided s) .1) (again-clear s l (q .stands) r (renewed stamp lots r) refl (clear-nth s 0 r q e g)) (good-cut s 0 r q e g)
-  where
-    again-clear : (s : Side) (l : List Order) (b : _) (r x : Order) → x .price ≡ r .price → Clear s b r → Clear s (with-at s l b) x
-    again-clear Buy l b r x e h = subst (λ p. Clear Buy b (record { number = r .number; turn = r .turn; firm = r .firm; client = r .client; side = r .side; price = p; quantity = r .quantity; leaves = r .leaves; shown = r .shown; disclosed = r .disclosed; validity = r .validity; investor = r .investor; tag = r .tag; some = r .some; within = r .within; left = r .left; few = r .few; whole = r .whole; part = r .part; hidden = r .hidden })) (sym e) h
-    again-clear Sell l b r x e h = subst (λ p. Clear Sell b (record { number = r .number; turn = r .turn; firm = r .firm; client = r .client; side = r .side; price = p; quantity = r .quantity; leaves = r .leaves; shown = r .shown; disclosed = r .disclosed; validity = r .validity; investor = r .investor; tag = r .tag; some = r .some; within = r .within; left = r .left; few = r .few; whole = r .whole; part = r .part; hidden = r .hidden })) (sym e) h
+    (all-nth (Sided s) (at s (q .stands)) 0 r e (g .sided s) .1) (clear-own s l (q .stands) (renewed stamp lots r) (same-clear s (q .stands) r (renewed stamp lots r) refl (clear-nth s 0 r q e g))) (good-cut s 0 r q e g)
 
 good-pull : (n : Queue) (i : ℕ) (r : Record) (q : Queues) → Lies n i r q → Good q → Good (taken n i q)
 good-pull (Orders s) i r q h g = good-cut s i (h .0) q (h .2) g
@@ -305,7 +297,7 @@ good-happen (pulls c n i r) f h g s l = good-pull n i r (f .queues) (h .1) g
 good-happen (amends i o) f h g s l =
     let x : Order = h .0 .was in
     let p = h .1 in
-    subst Good (sym (rewrites i x o (f .queues) (h .0 .there) (rw (p .side, p .price, p .turn, p .number) refl))) (good-set i x o (f .queues) (h .0 .there) p g)
+    subst Good (sym (rewrites i x o (f .queues) (h .0 .there) (sym (same-order-rank x o p)))) (good-set i x o (f .queues) (h .0 .there) p g)
 good-happen (recalls z i o) f h g s l = good-cut z i (h .0 .was) (f .queues) (h .0 .there) g
 
 held-ready : (lots : ℕ) (o : Order) → lots ≤ o .leaves → Low (o .price) → Ready (held lots o)

@@ -1,6 +1,6 @@
 -- An incoming order trades at least what it reaches, or all that it has.
 use mathlib.Core.Path.{_≡_, refl, ap, sym, _∙_, subst}
-use mathlib.Core.Bool.{Bool, true, false, cond, _&&_}
+use mathlib.Core.Bool.{Bool, true, false, cond}
 use mathlib.Core.List.{List, [], _∷_, _++_}
 use mathlib.Core.Logic.{⊎-elim}
 use Prim.Native.Nat.{ℕ, suc, zero, _+_, _-_, _<_, _≤_, min}
@@ -11,7 +11,7 @@ use Rattle.std.specs.shelf.Maps.{nth}
 use Rattle.std.specs.Options.{mapped}
 use Rattle.std.specs.declared.option.Option.{Option}
 use Rattle.std.specs.declared.option.Option.the-variants.{Some, None}
-use Rattle.std.proofs.shelf.Tests.{cond-true, cond-false, both-ways, eq-eqb, ne-eqb, cases-lt}
+use Rattle.std.proofs.shelf.Tests.{cond-true, cond-false, eq-eqb, ne-eqb, cases-lt, and-from}
 use Rattle.orders.specs.declared.side.Side.{Side}
 use Rattle.orders.specs.declared.side.Side.the-variants.{Buy, Sell}
 use Rattle.orders.specs.declared.price.Price.{Price}
@@ -171,10 +171,6 @@ settle-trades (suc k) f o s h w m = go (at (other (o .side)) (f .queues .stands)
         early : All (λ (y : Order). y .turn < f .clock .stamp) (r ∷ rest)
         early = subst (All (λ (y : Order). y .turn < f .clock .stamp)) e (early-stands (other (o .side)) f (s .early))
 
-        both : (a b : Bool) → a ≡ true → b ≡ true → (a && b) ≡ true
-        both true b e q = q
-        both false b e q = absurd (both-ways false refl e)
-
         trade : within (o .side) (o .price) (r .price) ≡ true → same-investor o r ≡ false → min (o .leaves) (reach o (r ∷ rest)) + traded-on (o .number) f ≤ traded-on (o .number) (settle (suc k) f)
         trade a b =
             let ev : Event = trades o r in
@@ -207,7 +203,7 @@ settle-trades (suc k) f o s h w m = go (at (other (o .side)) (f .queues .stands)
             (cases-lt (r .shown) (o .leaves))
 
         by-investor : (b : Bool) → within (o .side) (o .price) (r .price) ≡ true → same-investor o r ≡ b → min (o .leaves) (reach o (r ∷ rest)) + traded-on (o .number) f ≤ traded-on (o .number) (settle (suc k) f)
-        by-investor true a i = stuck (reach o (r ∷ rest)) (reach-own o r rest (both (same-investor o r) (within (o .side) (o .price) (r .price)) i a) sorted sided)
+        by-investor true a i = stuck (reach o (r ∷ rest)) (reach-own o r rest (and-from (same-investor o r) (within (o .side) (o .price) (r .price)) i a) sorted sided)
         by-investor false a i = trade a i
 
         by-limit : (b : Bool) → within (o .side) (o .price) (r .price) ≡ b → min (o .leaves) (reach o (r ∷ rest)) + traded-on (o .number) f ≤ traded-on (o .number) (settle (suc k) f)

@@ -50,7 +50,7 @@ use Rattle.laws.proofs.Tapes.{tape, tape-is}
 use Rattle.laws.proofs.Following.{sane-happen, Calm, calm-settled, settled-leads}
 use Rattle.laws.proofs.Arriving.{Proper, fits-arrival}
 use Rattle.laws.proofs.Supplies.{Supplied, Begins, roomy-begin, enough-begin, begins-arrival}
-use Rattle.laws.proofs.Reading.{In-ok, ok-then}
+use Rattle.laws.proofs.Reading.{In-ok, ok-then, any-ok}
 use Rattle.laws.proofs.Answering.{Entry-given, entry-given}
 use Rattle.laws.proofs.Running.{calm-after, calm-set-up, match-set-up}
 use Rattle.laws.proofs.Reaches.{reach-endless}
@@ -72,10 +72,6 @@ terms-ok a = cond-both (barred a) (Err Barred) (Ok a) (In-ok Open-terms) (λ _. 
 entry-terms : (form : EntryForm) → In-ok Open-terms (read-entry form)
 entry-terms form = go (wrong-blank form)
   where
-    any-ok : (r : Result Asked Refusal) → In-ok (λ _. Unit {0}) r
-    any-ok (Ok x) = tt
-    any-ok (Err e) = tt
-
     go : (m : Option ℕ) → In-ok Open-terms (blanks-first m (andThen (typed-entry form) if-allowed))
     go None = ok-then (λ _. Unit {0}) Open-terms (typed-entry form) if-allowed (any-ok (typed-entry form)) (λ a _. terms-ok a)
     go (Some cell) = tt

@@ -15,7 +15,6 @@ use Rattle.orders.specs.declared.side.Side.the-variants.{Buy, Sell}
 use Rattle.orders.specs.declared.price.Price.{Price}
 use Rattle.orders.specs.declared.order.Order.{Order}
 use Rattle.orders.specs.declared.row.OrderRow.{OrderRow}
-use Rattle.orders.specs.declared.rank.Rank.{Rank}
 use Rattle.orders.specs.Prices.{level, same-price}
 use Rattle.orders.specs.Ranks.{before, order-key}
 use Rattle.orders.specs.Rows.{row-of}
@@ -26,13 +25,9 @@ use Rattle.matching.specs.Next.{total}
 use Rattle.matching.specs.Reach.{better}
 use Rattle.laws.specs.Tally.{stands, waits, incoming, Account, Tally, stands-on, better-of, first-price}
 use Rattle.laws.proofs.Lists.{Sorted}
-use Rattle.laws.proofs.Queues.{Good, Low, Sided}
-use Rattle.laws.proofs.Sums.{Measure, of-hand, of-stop, everywhere}
+use Rattle.laws.proofs.Queues.{Good, Low, Sided, price-same, ranks-lower}
+use Rattle.laws.proofs.Sums.{Measure, of-hand, of-stop, everywhere, total-none}
 use Rattle.laws.proofs.Tallies.{View, by-row, Matches, zero-one}
-
-zeros : {X : Type 0} (l : List X) → total (λ x. 0) l ≡ 0
-zeros [] = refl
-zeros (x ∷ l) = let ih = zeros l in omega arith
 
 -- nobody that stands on a side passes a test that nobody of that queue passes
 
@@ -53,8 +48,8 @@ none-stands z q f g h =
     let k : View = λ p r. cond (stands-on z p r && q r) 1 0 in
     let a : total (by-row k stands) (f .queues .stands .buy) ≡ 0 = none-in-queue z Buy q (f .queues .stands .buy) (g .sided Buy) (λ e. subst (λ (s : Side). All (λ x. q (row-of x) ≡ false) (at s (f .queues .stands))) (sym e) h) in
     let b : total (by-row k stands) (f .queues .stands .sell) ≡ 0 = none-in-queue z Sell q (f .queues .stands .sell) (g .sided Sell) (λ e. subst (λ (s : Side). All (λ x. q (row-of x) ≡ false) (at s (f .queues .stands))) (sym e) h) in
-    let c : total (of-stop (by-row k)) (f .queues .waits .buy) ≡ 0 = zeros (f .queues .waits .buy) in
-    let d : total (of-stop (by-row k)) (f .queues .waits .sell) ≡ 0 = zeros (f .queues .waits .sell) in
+    let c : total (of-stop (by-row k)) (f .queues .waits .buy) ≡ 0 = total-none (f .queues .waits .buy) in
+    let d : total (of-stop (by-row k)) (f .queues .waits .sell) ≡ 0 = total-none (f .queues .waits .sell) in
     let e : of-hand (by-row k incoming) (f .hand) ≡ 0 = at-hand (f .hand) in
     omega arith
   where
@@ -68,12 +63,6 @@ some-stands g Buy r rest f e = let a : total (g stands) (f .queues .stands .buy)
 some-stands g Sell r rest f e = let a : total (g stands) (f .queues .stands .sell) ≡ g stands r + total (g stands) rest = ap (total (g stands)) e in omega arith
 
 -- the first price
-
-price-same : (p q : Price) → level p ≡ level q → p ≡ q
-price-same p q e = ap (λ n. as-price n) e
-  where
-    as-price : ℕ → Price
-    as-price n = record { hundredths = n }
 
 pub better-itself : (s : Side) (p : Price) → better s p p ≡ false
 better-itself Buy p = le-ltb (level p) (level p) (omega arith)
@@ -138,9 +127,6 @@ first-is s p (a ∷ l) e h = go (stands-on s (a .place) (a .order)) refl (zero-o
         (cases-eq (level (a .order .price)) (level p))
 
 -- no order of a queue is priced better than its first
-
-ranks-lower : (a b : Rank) → before b a ≡ false → a .key ≤ b .key
-ranks-lower a b h = grind (arith, tells)
 
 no-better-key : (s : Side) (p q : Price) → Low p → Low q → order-key s p ≤ order-key s q → better s q p ≡ false
 no-better-key Buy p q lp lq h = le-ltb (level p) (level q) (omega arith)

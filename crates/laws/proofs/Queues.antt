@@ -1,5 +1,5 @@
 -- Good queues: within their capacities, in rank order, each record in the queue of its side, and no bid at or above an offer.
-use mathlib.Core.Path.{_≡_, refl, sym, subst}
+use mathlib.Core.Path.{_≡_, refl, sym, subst, ap}
 use mathlib.Core.Bool.{false}
 use mathlib.Core.List.{List, [], _∷_}
 use Prim.Native.Nat.{ℕ, _<_, _≤_}
@@ -33,6 +33,13 @@ use Rattle.laws.proofs.Lists.{Sorted, length-taken, all-removed, all-nth, sort
 -- a price that a rank can tell
 abbrev pub Low : Price → Type 0
 Low p = level p ≤ 4294967295
+
+-- a price is its level
+pub price-same : (p q : Price) → level p ≡ level q → p ≡ q
+price-same p q e = ap as-price e
+  where
+    as-price : ℕ → Price
+    as-price n = record { hundredths = n }
 
 abbrev pub Sided : Side → Order → Type 0
 Sided s o = (o .side ≡ s) × Low (o .price)
@@ -136,10 +143,10 @@ pub record Same-place (x o : Order) : Type 0 where
   pub turn : o .turn ≡ x .turn
   pub number : o .number ≡ x .number
 
-same-rank : (x o : Order) → Same-place x o → rank-of o ≡ rank-of x
-same-rank x o h = rw (h .side, h .price, h .turn, h .number) refl
+pub same-order-rank : (x o : Order) → Same-place x o → rank-of o ≡ rank-of x
+same-order-rank x o h = rw (h .side, h .price, h .turn, h .number) refl
 
-same-clear : (s : Side) (b : Both (List Order)) (x o : Order) → o .price ≡ x .price → Clear s b x → Clear s b o
+pub same-clear : (s : Side) (b : Both (List Order)) (x o : Order) → o .price ≡ x .price → Clear s b x → Clear s b o
 same-clear Buy b x o e h = subst (λ p. All (λ (y : Order). level p < level (y .price)) (b .sell)) (sym e) h
 same-clear Sell b x o e h = subst (λ p. All (λ (y : Order). level (y .price) < level p) (b .buy)) (sym e) h
 
@@ -149,7 +156,7 @@ good-set i x o q e h g =
     let l : List Order = at s (q .stands) in
     let d = all-nth (Sided s) l i x e (g .sided s) in
     let c = all-clear s (q .stands) (g .uncrossed) in
-    good-stands s (set l i o) q g (omega (arith, length-rewritten l i o, g .bounded (Orders s))) (sorted-set rank-of l i x o e (same-rank x o h) (g .sorted s))
+    good-stands s (set l i o) q g (omega (arith, length-rewritten l i o, g .bounded (Orders s))) (sorted-set rank-of l i x o e (same-order-rank x o h) (g .sorted s))
     (all-rewritten (Sided s) l i o (refl, subst Low (sym (h .price)) (d .1)) (g .sided s))
     (all-rewritten (Clear s (q .stands)) l i o (same-clear s (q .stands) x o (h .price) (all-nth (Clear s (q .stands)) l i x e c)) c)
 
@@ -170,7 +177,7 @@ clear-beyond o Buy b h = all-weaker (λ (a : Order). leb (level (a .price)) (lev
 clear-beyond o Sell b h = all-weaker (λ (a : Order). leb (level (o .price)) (level (a .price)) ≡ false) (λ (a : Order). level (a .price) < level (o .price)) (λ a. leb-false (level (o .price)) (level (a .price))) (b .buy) h
 
 -- what ranks behind the first is priced no better
-ranks-lower : (a b : Rank) → before b a ≡ false → a .key ≤ b .key
+pub ranks-lower : (a b : Rank) → before b a ≡ false → a .key ≤ b .key
 ranks-lower a b h = grind (arith, tells)
 
 pub no-better : (s : Side) (limit p p′ : Price) (t n t′ n′ : ℕ) → Low p → Low p′ → within s limit p ≡ false → before (record { key = order-key (other s) p′; turn = t′; number = n′ }) (record { key = order-key (other s) p; turn = t; number = n }) ≡ false → within s limit p′ ≡ false

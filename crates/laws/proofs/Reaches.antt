@@ -1,6 +1,6 @@
 -- Reach falls by what is traded, and ends where trading ends.
 use mathlib.Core.Path.{_≡_, refl, ap, sym, _∙_, subst}
-use mathlib.Core.Bool.{Bool, true, false, cond, _&&_}
+use mathlib.Core.Bool.{Bool, true, false, cond}
 use mathlib.Core.List.{List, [], _∷_}
 use mathlib.Core.Logic.{_⊎_, inl, inr, ⊎-elim}
 use Prim.Native.Nat.{ℕ, suc, zero, _+_, _-_, _<_, _≤_}
@@ -9,7 +9,7 @@ use lib.Dec.{eqb}
 use Rattle.std.specs.shelf.Lists.{All}
 use Rattle.std.specs.declared.option.Option.{Option}
 use Rattle.std.specs.declared.option.Option.the-variants.{Some, None}
-use Rattle.std.proofs.shelf.Tests.{cond-both, cond-true, cond-false, both-ways, and-left, and-right, eqb-true, eqb-false, eq-eqb, lt-ltb, cases-eq}
+use Rattle.std.proofs.shelf.Tests.{cond-both, cond-true, cond-false, and-left, and-right, eqb-true, eqb-false, eq-eqb, lt-ltb, cases-eq, and-from}
 use Rattle.std.proofs.shelf.Ways.{tells}
 use Rattle.orders.specs.declared.side.Side.{Side}
 use Rattle.orders.specs.declared.side.Side.the-variants.{Buy, Sell}
@@ -28,15 +28,9 @@ use Rattle.matching.specs.Reach.{better, own, own-price, counts, open-lots, sho
 use Rattle.matching.proofs.Parts.{parts-least, parts-renewed}
 use Rattle.laws.specs.Reaching.{worn, endless}
 use Rattle.laws.proofs.Lists.{Sorted, put-in-cons, total-put-in, all-put-in, sorted-put-in}
-use Rattle.laws.proofs.Queues.{Low, Sided, Beyond, beyond-first}
+use Rattle.laws.proofs.Queues.{Low, Sided, Beyond, beyond-first, price-same, ranks-lower}
 use Rattle.laws.proofs.Rows.{renewed-row}
 use Rattle.laws.proofs.Firsts.{none-better, better-itself}
-
-price-same : (p q : Price) → level p ≡ level q → p ≡ q
-price-same p q e = ap as-price e
-  where
-    as-price : ℕ → Price
-    as-price n = record { hundredths = n }
 
 -- open lots are a sum
 open-total : (o : Order) (m : Option Price) (l : List Order) → open-lots o m l ≡ total (λ (r : Order). cond (counts o m r) (r .leaves) 0) l
@@ -86,9 +80,6 @@ shown-apart o x p (y ∷ l) e k =
     (λ _. cond-false (own o x) 0 (cond (same-price (x .price) p) (x .shown) 0 + shown-ahead o p (y ∷ l)) e
     ∙ (let z : cond (same-price (x .price) p) (x .shown) 0 ≡ 0 = cond-false (same-price (x .price) p) (x .shown) 0 k in let w : cond (same-price (x .price) p) (x .shown) 0 + shown-ahead o p (y ∷ l) ≡ shown-ahead o p (y ∷ l) = omega arith in w))
     (λ _. ap (λ n. cond (own o y) 0 (cond (same-price (y .price) p) (y .shown) 0 + n)) (shown-apart o x p l e k))
-
-ranks-lower : (a b : Rank) → before b a ≡ false → a .key ≤ b .key
-ranks-lower a b h = grind (arith, tells)
 
 -- who stands before the first of the own investor is priced no worse
 own-behind : (z : Side) (o : Order) (p : Price) (k : Rank) (l : List Order) → own-price o l ≡ Some p → All (Sided z) l → All (λ y. before (rank-of y) k ≡ false) l → k .key ≤ order-key z p
@@ -237,16 +228,12 @@ reach-endless (suc k) turn o [] h d t m = refl
 reach-endless (suc k) turn o (r ∷ l) h d t m =
     cond-both (within (o .side) (o .price) (r .price)) (cond (same-investor o r) 0 (r .shown + endless k (suc turn) o (worn turn r l))) 0 (λ n. reach o (r ∷ l) ≡ n)
     (λ w. cond-both (same-investor o r) 0 (r .shown + endless k (suc turn) o (worn turn r l)) (λ n. reach o (r ∷ l) ≡ n)
-    (λ i. reach-own o r l (both (same-investor o r) (within (o .side) (o .price) (r .price)) i w) h d)
+    (λ i. reach-own o r l (and-from (same-investor o r) (within (o .side) (o .price) (r .price)) i w) h d)
     (λ i. let a = reach-worn o r l turn w i h d (t .1) in
     let b = reach-endless k (suc turn) o (worn turn r l) (worn-sorted (eqb (r .leaves) (r .shown))) (worn-sided (eqb (r .leaves) (r .shown))) (worn-early (eqb (r .leaves) (r .shown))) (omega (arith, worn-parts turn r l)) in
     omega arith))
     (λ w. reach-beyond o (r ∷ l) (beyond-first (o .side) (o .price) r l h d w))
   where
-    both : (a b : Bool) → a ≡ true → b ≡ true → (a && b) ≡ true
-    both true b e q = q
-    both false b e q = absurd (both-ways false refl e)
-
     worn-sorted : (b : Bool) → Sorted rank-of (cond b l (put-in rank-of (renewed turn (r .shown) r) l))
     worn-sorted true = h .1
     worn-sorted false = sorted-put-in rank-of (renewed turn (r .shown) r) l (h .1)

@@ -43,7 +43,7 @@ pub ok-then : {A B : Type 0} (Q : A → Type 0) (P : B → Type 0) (r : Result A
 ok-then Q P (Ok x) k h next = next x h
 ok-then Q P (Err e) k h next = tt
 
-any-ok : {A : Type 0} (r : Result A Refusal) → In-ok (λ _. Unit {0}) r
+pub any-ok : {A : Type 0} (r : Result A Refusal) → In-ok (λ _. Unit {0}) r
 any-ok (Ok x) = tt
 any-ok (Err e) = tt
 

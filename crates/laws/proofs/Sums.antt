@@ -87,6 +87,11 @@ total-plus : {X : Type 0} (g h : X → ℕ) (l : List X) → total (λ x. g x + 
 total-plus g h [] = refl
 total-plus g h (x ∷ l) = let ih = total-plus g h l in omega arith
 
+-- a sum of nothing
+pub total-none : {X : Type 0} (l : List X) → total (λ x. 0) l ≡ 0
+total-none [] = refl
+total-none (x ∷ l) = let ih = total-none l in omega arith
+
 -- where the weight is 0, two sums agree if they agree at each of weight 0
 total-agree : {X : Type 0} (w g h : X → ℕ) → ((x : X) → w x ≡ 0 → g x ≡ h x) → (l : List X) → total w l ≡ 0 → total g l ≡ total h l
 total-agree w g h k [] e = refl

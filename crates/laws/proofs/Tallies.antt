@@ -21,7 +21,7 @@ use Rattle.tapes.specs.declared.cause.Cause.{Cause}
 use Rattle.matching.specs.Model.{Floor, Event, drops, trades, stays, fires, pulls, Fate, gone, again, kept, fate, held, deal, happen}
 use Rattle.matching.specs.Next.{total}
 use Rattle.laws.specs.Tally.{Place, stands, waits, incoming, Account, Tally, account, kept-if, adjust, only, numbered, row-with, less, ran-out, refilled, take-off, stood, at-ease, released, note-release, note-trade, note-cancel}
-use Rattle.laws.proofs.Sums.{Measure, of-hand, over, everywhere, over-plus, over-agree, one-of}
+use Rattle.laws.proofs.Sums.{Measure, of-hand, over, everywhere, over-plus, over-agree, one-of, total-none}
 use Rattle.laws.proofs.Rows.{Shows, renewed-row, lowered-row}
 use Rattle.laws.proofs.Events.{Fits, of-fate, going, coming, rest-queues, resting, taken-up, put-down, one-itself, Ready, place}
 use Rattle.laws.specs.Smooth.{fate-draws}
@@ -161,17 +161,13 @@ module _ (o r : Order) (f : Floor) (fit : Fits (trades o r) f) (s : Sane f) wher
   unnamed : (p : Place) (x : Order) → two p x ≡ 0 → (eqb (x .number) (o .number) || eqb (x .number) (r .number)) ≡ false
   unnamed p x z = or-from (eqb (x .number) (o .number)) (eqb (x .number) (r .number)) (zero-one (eqb (x .number) (o .number)) (omega arith)) (zero-one (eqb (x .number) (r .number)) (omega arith))
 
-  total-zero : {X : Type 0} (l : List X) → total (λ x. 0) l ≡ 0
-  total-zero [] = refl
-  total-zero (x ∷ l) = let ih = total-zero l in omega arith
-
   -- a sum that counts only the two
   pub two-only : (w : Measure) → everywhere (λ p x. cond (eqb (x .number) (o .number) || eqb (x .number) (r .number)) (w p x) 0) f ≡ w incoming o + w stands r
   two-only w =
       let e : Event = trades o r in
       let g : Measure = λ p x. cond (eqb (x .number) (o .number) || eqb (x .number) (r .number)) (w p x) 0 in
       let q : Queues = rest-queues e f in
-      let z : over (λ _ _. 0) q None ≡ 0 = omega (arith, total-zero (q .stands .buy), total-zero (q .stands .sell), total-zero (q .waits .buy), total-zero (q .waits .sell)) in
+      let z : over (λ _ _. 0) q None ≡ 0 = omega (arith, total-none (q .stands .buy), total-none (q .stands .sell), total-none (q .waits .buy), total-none (q .waits .sell)) in
       omega (
         arith,
         taken-up g e f fit,
@@ -220,12 +216,8 @@ module _ (e : Event) (f : Floor) (fit : Fits e f) (s : Sane f) (n : ℕ) (one : 
   one-only w =
       let g : Measure = λ p x. cond (eqb (x .number) n) (w p x) 0 in
       let q : Queues = rest-queues e f in
-      let z : over (λ _ _. 0) q None ≡ 0 = omega (arith, zeros (q .stands .buy), zeros (q .stands .sell), zeros (q .waits .buy), zeros (q .waits .sell)) in
+      let z : over (λ _ _. 0) q None ≡ 0 = omega (arith, total-none (q .stands .buy), total-none (q .stands .sell), total-none (q .waits .buy), total-none (q .waits .sell)) in
       omega (arith, taken-up g e f fit, over-agree q None (one-of n) g (λ _ _. 0) (λ p x k. cond-false (eqb (x .number) n) (w p x) 0 (zero-one (eqb (x .number) n) k)) (rest-other e f fit (s .counts) n one))
-    where
-      zeros : {X : Type 0} (l : List X) → total (λ x. 0) l ≡ 0
-      zeros [] = refl
-      zeros (x ∷ l) = let ih = zeros l in omega arith
 
 pub match-drops : (c : Cause) (o : Order) (f : Floor) → Fits (drops c o) f → Sane f → (t : Tally) → Matches t f → Matches (note-cancel (o .number) (o .leaves) t) (happen (drops c o) f)
 match-drops c o f fit s t m = record {
@@ -265,11 +257,7 @@ on-its-way waits o = 0
 on-its-way incoming o = 1
 
 none-on-way : (q : Queues) → over on-its-way q None ≡ 0
-none-on-way q = omega (arith, zeros (q .stands .buy), zeros (q .stands .sell), zeros (q .waits .buy), zeros (q .waits .sell))
-  where
-    zeros : {X : Type 0} (l : List X) → total (λ x. 0) l ≡ 0
-    zeros [] = refl
-    zeros (x ∷ l) = let ih = zeros l in omega arith
+none-on-way q = omega (arith, total-none (q .stands .buy), total-none (q .stands .sell), total-none (q .waits .buy), total-none (q .waits .sell))
 
 stays-so : (p : Place) (o : Order) → on-its-way p o ≡ 0 → up (account p (seen p o)) ≡ Some (account p (seen p o))
 stays-so stands o z = refl
