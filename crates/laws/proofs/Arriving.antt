@@ -110,9 +110,6 @@ pub seen-new : (a : Asked) (price : Price) (p : Place) (stamp : ℕ) → Proper 
 seen-new a price p stamp h e turn z = ap (newcomer a price stamp) z ∙ (sym (e 0) ∙ sym (ap (as-seen p) (order-from-row a price stamp (h .allowed))))
 
 module _ (a : Asked) (f : Floor) (t : Tally) (pr : Proper a) (c : Calm f) (m : Matches t f) where
-  stamp : ℕ
-  stamp = f .clock .stamp
-
   -- an order joins the accounts
   joins : (e : Event) (p : Place) (x : Order) (r : OrderRow) → Fits e f → ((g : Measure) → going e f g ≡ 0) → ((g : Measure) → coming e f g ≡ g p x) → r ≡ seen p x → (g : View) → total (on-account g) (account p r ∷ t .accounts) ≡ everywhere (by-row g) (happen e f)
   joins e p x r fit none one is g =

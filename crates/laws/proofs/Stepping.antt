@@ -34,9 +34,6 @@ pub record Goes (q : Request) (t : Tally) (f g : Floor) : Type 0 where
   pub told : Tells q t f g
   pub course : Course f g
 
-pub goes-here : (q : Request) (t : Tally) (f : Floor) → Calm f → Matches t f → Goes q t f f
-goes-here q t f c m = record { calm = c; told = tells-here q t f (with-match f t m); course = ended }
-
 pub goes-swept : (q : Request) (t : Tally) (f g : Floor) → Swept q t f g → Goes q t f g
 goes-swept q t f g s = record { calm = s .calm; told = record { said = s .said; tape-grew = s .tape-grew; fair = s .fair; with-it = with-match g (noted q (s .said) t) (s .matches) }; course = s .course }
 

@@ -26,7 +26,8 @@ Foremost t r = All (λ b. stands-on (r .side) (b .place) (b .order) ≡ true →
 pub record Fair (i r : ℕ) (price : Price) (t : Tally) : Type 0 where
   pub incoming-held : held-of i t ≡ 1
   pub resting-held : held-of r t ≡ 1
-  pub in-turn : All (λ a. (a .order .number ≡ i) ⊎ (a .order .number ≡ r) → (within (a .order .side) (a .order .price) price ≡ true) × Foremost t (a .order)) (t .accounts)
+  pub in-turn : All (λ a. (a .order .number ≡ i) ⊎ (a .order .number ≡ r) →
+      (within (a .order .side) (a .order .price) price ≡ true) × Foremost t (a .order)) (t .accounts)
 
 abbrev pub Fair-line : Line → Tally → Type 0
 Fair-line (Entered n limit quantity) t = Unit {0}

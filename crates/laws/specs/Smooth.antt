@@ -110,7 +110,8 @@ In-bounds (bounces cause o) f = Unit {0}
 In-bounds (misses n k) f = Unit {0}
 In-bounds (drops cause o) f = Unit {0}
 In-bounds (trades o r) f =
-    (deal o r < o .leaves → keeps (with-lots (o .turn) (o .leaves - deal o r) (showing (o .disclosed) (o .leaves - deal o r)) o) ≡ true) × fate-bounds (fate (deal o r) r) (deal o r) (f .clock .stamp) r
+    (deal o r < o .leaves → keeps (with-lots (o .turn) (o .leaves - deal o r) (showing (o .disclosed) (o .leaves - deal o r)) o) ≡ true)
+    × fate-bounds (fate (deal o r) r) (deal o r) (f .clock .stamp) r
 In-bounds (stays o) f = Unit {0}
 In-bounds (fires s x) f = keeps (with-lots (f .clock .stamp) (x .order .leaves - 0) (showing (x .order .disclosed) (x .order .leaves - 0)) (x .order)) ≡ true
 In-bounds (pulls cause n i r) f = Unit {0}
@@ -133,7 +134,10 @@ floor s = floor-of (s .queues) (s .reel) (clock-of (s .day))
 
 -- one more step, after any setting up and any steps
 abbrev pub Always-smooth : Type 0
-Always-smooth = (day stamp : ℕ) (q : Queues) (limit : ℕ) (forms : List Form) (form : Form) → Course (floor (after forms (set-up day stamp q limit))) (floor (step form (after forms (set-up day stamp q limit))))
+Always-smooth =
+    (day stamp : ℕ) (q : Queues) (limit : ℕ) (forms : List Form) (form : Form) →
+    (let s : State = after forms (set-up day stamp q limit) in
+    Course (floor s) (floor (step form s)))
 
 -- an order that is entered is as it was asked
 
@@ -150,6 +154,9 @@ As-changed c o shown o′ = (o′ .quantity ≡ new-quantity c o) × (o′ .leav
 
 abbrev pub Changed-as-asked : Type 0
 Changed-as-asked =
-    (day stamp : ℕ) (q : Queues) (limit : ℕ) (forms : List Form) (form : ChangeForm) (p : Plan) → change-told form (floor (after forms (set-up day stamp q limit))) ≡ Ok p →
-    ((turn : ℕ) → As-changed (p .change) (p .order) (showing (new-disclosed (p .change) (p .order)) (new-leaves (p .change) (p .order))) (recalled turn (p .change) (p .order)))
-    × (loses-turn (p .change) (p .order) ≡ false → As-changed (p .change) (p .order) (min (p .order .shown) (new-leaves (p .change) (p .order))) (amended (p .change) (p .order)))
+    (day stamp : ℕ) (q : Queues) (limit : ℕ) (forms : List Form) (form : ChangeForm) (p : Plan) →
+    change-told form (floor (after forms (set-up day stamp q limit))) ≡ Ok p →
+    (let c : Change = p .change in
+    let o : Order = p .order in
+    ((turn : ℕ) → As-changed c o (showing (new-disclosed c o) (new-leaves c o)) (recalled turn c o))
+    × (loses-turn c o ≡ false → As-changed c o (min (o .shown) (new-leaves c o)) (amended c o)))

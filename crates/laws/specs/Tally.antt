@@ -180,7 +180,8 @@ note-entry removal n t = t
 
 abbrev pub costs-turn : Change → OrderRow → Bool
 costs-turn c r =
-    not (same-price (valueOr (c .price) (r .price)) (r .price)) || (ltb (r .quantity) (valueOr (c .quantity) (r .quantity)) || not (eqb (valueOr (c .disclosed) (r .disclosed)) (r .disclosed)))
+    not (same-price (valueOr (c .price) (r .price)) (r .price))
+    || (ltb (r .quantity) (valueOr (c .quantity) (r .quantity)) || not (eqb (valueOr (c .disclosed) (r .disclosed)) (r .disclosed)))
 
 abbrev pub open-then : Change → OrderRow → ℕ
 open-then c r = valueOr (c .quantity) (r .quantity) - (r .quantity - r .leaves)
