@@ -133,7 +133,8 @@ entry-given form f =
     ok-then _ (Entry-given form f) (client-free (a .firm) (a .client) None (f .queues)) _ (any-ok (client-free (a .firm) (a .client) None (f .queues))) (λ _ _.
     (p .0, record { free-lines = l; free-stamps = s }, p .1)))))
 
-pub ends-entry : (form : EntryForm) (f : Floor) (t : Tally) → Calm f → Matches t f → Ends (Entry form) t f (answered (entry-told form f)) (left-by enter (entry-told form f) f)
+pub ends-entry : (form : EntryForm) (f : Floor) (t : Tally) → Calm f → Matches t f →
+    Ends (Entry form) t f (answered (entry-told form f)) (left-by enter (entry-told form f) f)
 ends-entry form f t c m = go (entry-told form f) (entry-given form f)
   where
     go : (r : Result Asked Refusal) → In-ok (Entry-given form f) r → Ends (Entry form) t f (answered r) (left-by enter r f)
@@ -143,7 +144,8 @@ ends-entry form f t c m = go (entry-told form f) (entry-given form f)
 -- change
 
 -- an order that was looked up stands in the queue of its side
-stands-there : (n : Queue) (i : ℕ) (r : Record) (o : Order) (q : Queues) → r ≡ Standing o → Lies n i r q → Good q → (nth (at (o .side) (q .stands)) i ≡ Some o) × Low (o .price)
+stands-there : (n : Queue) (i : ℕ) (r : Record) (o : Order) (q : Queues) → r ≡ Standing o → Lies n i r q → Good q →
+    (nth (at (o .side) (q .stands)) i ≡ Some o) × Low (o .price)
 stands-there (Orders s) i r o q e h g =
     let z : h .0 ≡ o = same (h .0) o (sym (h .1) ∙ e) in
     let d = all-nth (Sided s) (at s (q .stands)) i (h .0) (h .2) (g .sided s) in
@@ -175,7 +177,8 @@ new-low : (m : Option Price) (p : Price) → In-some Low m → Low p → Low (va
 new-low None p h k = k
 new-low (Some n) p h k = h
 
-permitted : (c : Change) (o : Order) → Within-ranges c → Low (o .price) → traded o < new-quantity c o → disclosed-barred (new-quantity c o) (new-disclosed c o) ≡ false → Permitted c o
+permitted : (c : Change) (o : Order) → Within-ranges c → Low (o .price) → traded o < new-quantity c o →
+    disclosed-barred (new-quantity c o) (new-disclosed c o) ≡ false → Permitted c o
 permitted c o w l a d = record {
   above = a;
   allowed = allowed-from (new-quantity c o) (new-disclosed c o) (omega arith) (new-few (c .quantity) (o .quantity) (w .quantity) (o .few)) d;
@@ -198,7 +201,8 @@ change-given form f g =
     (let z = stands-there (x .queue) (x .at) (x .«record») o (f .queues) e (look-lies (x .queue) (x .at) (x .«record») (f .queues) k) g in
     (permitted (a .change) o (w .0) (z .1) u d, record { free-lines = l; free-stamps = s }, z .0, ap change-asked (w .1)))))))))))
 
-pub ends-change : (form : ChangeForm) (f : Floor) (t : Tally) → Calm f → Matches t f → Ends (ChangeStep form) t f (answered (change-told form f)) (left-by carry-out (change-told form f) f)
+pub ends-change : (form : ChangeForm) (f : Floor) (t : Tally) → Calm f → Matches t f →
+    Ends (ChangeStep form) t f (answered (change-told form f)) (left-by carry-out (change-told form f) f)
 ends-change form f t c m = go (change-told form f) (change-given form f (c .sane .good))
   where
     go : (r : Result Plan Refusal) → In-ok (Change-given form f) r → Ends (ChangeStep form) t f (answered r) (left-by carry-out r f)
@@ -222,7 +226,8 @@ cancel-given form f =
     both (Ok x) s h = (s, h)
     both (Err e) s h = tt
 
-pub ends-cancel : (form : CancelForm) (f : Floor) (t : Tally) → Calm f → Matches t f → Ends (Cancel form) t f (answered (cancel-told form (f .queues) (f .reel))) (left-by pull-found (cancel-told form (f .queues) (f .reel)) f)
+pub ends-cancel : (form : CancelForm) (f : Floor) (t : Tally) → Calm f → Matches t f →
+    Ends (Cancel form) t f (answered (cancel-told form (f .queues) (f .reel))) (left-by pull-found (cancel-told form (f .queues) (f .reel)) f)
 ends-cancel form f t c m = go (cancel-told form (f .queues) (f .reel)) (cancel-given form f)
   where
     go : (r : Result Found Refusal) → In-ok (λ x. Spare f × Looks (f .queues) x) r → Ends (Cancel form) t f (answered r) (left-by pull-found r f)
@@ -236,7 +241,8 @@ mass-given form f =
     ok-then _ (λ _. Spare f) (read-mass-cancel form) _ (any-ok (read-mass-cancel form)) (λ w _.
     ok-then _ (λ _. Spare f) (lines-free (f .queues) (f .reel)) _ (lines-ok f) (λ _ l. spare-from f l))
 
-pub ends-mass : (form : MassCancelForm) (f : Floor) (t : Tally) → Calm f → Matches t f → Ends (MassCancel form) t f (answered (mass-told form (f .queues) (f .reel))) (left-by pull-wanted (mass-told form (f .queues) (f .reel)) f)
+pub ends-mass : (form : MassCancelForm) (f : Floor) (t : Tally) → Calm f → Matches t f →
+    Ends (MassCancel form) t f (answered (mass-told form (f .queues) (f .reel))) (left-by pull-wanted (mass-told form (f .queues) (f .reel)) f)
 ends-mass form f t c m = go (mass-told form (f .queues) (f .reel)) (mass-given form f)
   where
     go : (r : Result Wanted Refusal) → In-ok (λ _. Spare f) r → Ends (MassCancel form) t f (answered r) (left-by pull-wanted r f)

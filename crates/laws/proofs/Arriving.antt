@@ -66,7 +66,8 @@ first-low : (s : Side) (l : List Order) → All (Sided s) l → (r : Order) → 
 first-low s [] d r e = let z : _≡_ {A = ℕ} 0 1 = cc in absurd (omega arith)
 first-low s (x ∷ l) d r e = subst (λ (o : Order). Low (o .price)) (let z : x ≡ r = cc in z) (d .0 .1)
 
-fits-market : (a : Asked) (f : Floor) (m : Option Order) → first-order (other (a .side)) (f .queues) ≡ m → Proper a → Calm f → Fits (at-market a (f .clock .stamp) m (f .queues)) f
+fits-market : (a : Asked) (f : Floor) (m : Option Order) → first-order (other (a .side)) (f .queues) ≡ m → Proper a → Calm f →
+    Fits (at-market a (f .clock .stamp) m (f .queues)) f
 fits-market a f None e p c = (c .idle, refl)
 fits-market a f (Some r) e p c = fits-judged a (order-from a (r .price) (f .clock .stamp)) f (arrives a (r .price) f p (first-low (other (a .side)) (at (other (a .side)) (f .queues .stands)) (c .sane .good .sided (other (a .side))) r e) (c .idle))
 
@@ -106,18 +107,22 @@ untraded-arrival a stamp q t = untraded-kind (a .kind) a stamp q t
 
 -- the tally gets the entry's order
 
-pub seen-new : (a : Asked) (price : Price) (p : Place) (stamp : ℕ) → Proper a → ((n : ℕ) → as-seen p (entered-row a price stamp) ≡ newcomer a price stamp stamp) → (turn : ℕ) → turn ≡ stamp → newcomer a price stamp turn ≡ seen p (order-from a price stamp)
+pub seen-new : (a : Asked) (price : Price) (p : Place) (stamp : ℕ) → Proper a →
+    ((n : ℕ) → as-seen p (entered-row a price stamp) ≡ newcomer a price stamp stamp) → (turn : ℕ) → turn ≡ stamp →
+    newcomer a price stamp turn ≡ seen p (order-from a price stamp)
 seen-new a price p stamp h e turn z = ap (newcomer a price stamp) z ∙ (sym (e 0) ∙ sym (ap (as-seen p) (order-from-row a price stamp (h .allowed))))
 
 module _ (a : Asked) (f : Floor) (t : Tally) (pr : Proper a) (c : Calm f) (m : Matches t f) where
   -- an order joins the accounts
-  joins : (e : Event) (p : Place) (x : Order) (r : OrderRow) → Fits e f → ((g : Measure) → going e f g ≡ 0) → ((g : Measure) → coming e f g ≡ g p x) → r ≡ seen p x → (g : View) → total (on-account g) (account p r ∷ t .accounts) ≡ everywhere (by-row g) (happen e f)
+  joins : (e : Event) (p : Place) (x : Order) (r : OrderRow) → Fits e f → ((g : Measure) → going e f g ≡ 0) → ((g : Measure) → coming e f g ≡ g p x) →
+      r ≡ seen p x → (g : View) → total (on-account g) (account p r ∷ t .accounts) ≡ everywhere (by-row g) (happen e f)
   joins e p x r fit none one is g =
       let z : g p r ≡ g p (seen p x) = ap (g p) is in
       omega (arith, m .sums g, taken-up (by-row g) e f fit, put-down (by-row g) e f fit (c .sane .good) (c .sane .counts .single), none (by-row g), one (by-row g))
 
   -- an order joins the accounts and leaves them at once
-  passes : (e : Event) (p : Place) (r : OrderRow) (n lots turn : ℕ) → Fits e f → ((g : Measure) → going e f g ≡ 0) → ((g : Measure) → coming e f g ≡ 0) → r .number ≡ n → n ≡ f .clock .stamp → r .leaves ≡ lots →
+  passes : (e : Event) (p : Place) (r : OrderRow) (n lots turn : ℕ) → Fits e f → ((g : Measure) → going e f g ≡ 0) → ((g : Measure) → coming e f g ≡ 0) →
+      r .number ≡ n → n ≡ f .clock .stamp → r .leaves ≡ lots →
       (g : View) → total (on-account g) (adjust (λ a. only (numbered n a) (take-off lots turn a) a) (account p r ∷ t .accounts)) ≡ everywhere (by-row g) (happen e f)
   passes e p r n lots turn fit none also num new all g =
       let h : Account → Option Account = λ a. only (numbered n a) (take-off lots turn a) a in
@@ -151,7 +156,8 @@ module _ (a : Asked) (f : Floor) (t : Tally) (pr : Proper a) (c : Calm f) (m : M
         turns = omega (arith, m .turns, stamp-is e f room);
       }
 
-  told-enters : (price : Price) → place-as (a .kind) ≡ incoming → limit-as (a .kind) (a .side) (t .accounts) ≡ price → Told (enters (order-from a price (f .clock .stamp)))
+  told-enters : (price : Price) → place-as (a .kind) ≡ incoming → limit-as (a .kind) (a .side) (t .accounts) ≡ price →
+      Told (enters (order-from a price (f .clock .stamp)))
   told-enters price k l fit room =
       let o : Order = order-from a price (f .clock .stamp) in
       let e : Event = enters o in
@@ -162,12 +168,14 @@ module _ (a : Asked) (f : Floor) (t : Tally) (pr : Proper a) (c : Calm f) (m : M
         turns = omega (arith, m .turns, stamp-is e f room);
       }
 
-  told-judged : (price : Price) → place-as (a .kind) ≡ incoming → limit-as (a .kind) (a .side) (t .accounts) ≡ price → Told (judged a (order-from a price (f .clock .stamp)) (f .queues))
+  told-judged : (price : Price) → place-as (a .kind) ≡ incoming → limit-as (a .kind) (a .side) (t .accounts) ≡ price →
+      Told (judged a (order-from a price (f .clock .stamp)) (f .queues))
   told-judged price k l =
       let o : Order = order-from a price (f .clock .stamp) in
       cond-both (short a o (f .queues)) (bounces ShortReach o) (enters o) Told (λ _. told-bounces ShortReach price) (λ _. told-enters price k l)
 
-  told-market : a .kind ≡ Market → (l : List Order) → at (other (a .side)) (f .queues .stands) ≡ l → Told (at-market a (f .clock .stamp) (order-in (mapped Standing (nth l 0))) (f .queues))
+  told-market : a .kind ≡ Market → (l : List Order) → at (other (a .side)) (f .queues .stands) ≡ l →
+      Told (at-market a (f .clock .stamp) (order-in (mapped Standing (nth l 0))) (f .queues))
   told-market k [] e fit room =
       let ev : Event = misses (f .clock .stamp) (a .quantity) in
       record {
@@ -198,5 +206,6 @@ module _ (a : Asked) (f : Floor) (t : Tally) (pr : Proper a) (c : Calm f) (m : M
             turns = omega (arith, m .turns, stamp-is ev f room);
           })
 
-  pub match-arrival : Roomy (arrival a (f .clock .stamp) (f .queues)) f → Matches (noted (entry a) (lines (arrival a (f .clock .stamp) (f .queues))) t) (happen (arrival a (f .clock .stamp) (f .queues)) f)
+  pub match-arrival : Roomy (arrival a (f .clock .stamp) (f .queues)) f →
+      Matches (noted (entry a) (lines (arrival a (f .clock .stamp) (f .queues))) t) (happen (arrival a (f .clock .stamp) (f .queues)) f)
   match-arrival room = told-kind (a .kind) refl (fits-arrival a f pr c) room

@@ -33,7 +33,8 @@ pub record Permitted (c : Change) (o : Order) : Type 0 where
   pub allowed : Allowed (new-quantity c o) (new-disclosed c o)
   pub low : Low (new-price c o)
 
-pub recalled-row : (stamp : ℕ) (c : Change) (o : Order) → Permitted c o → row-of (recalled stamp c o) ≡ changed-row c stamp (showing (new-disclosed c o) (new-leaves c o)) (row-of o)
+pub recalled-row : (stamp : ℕ) (c : Change) (o : Order) → Permitted c o →
+    row-of (recalled stamp c o) ≡ changed-row c stamp (showing (new-disclosed c o) (new-leaves c o)) (row-of o)
 recalled-row stamp c o p =
     let r : OrderRow = changed-row c stamp (showing (new-disclosed c o) (new-leaves c o)) (row-of o) in
     reads r (anew-fits r refl (omega (arith, p .above)) (omega (arith, p .above)) (p .allowed))
@@ -53,7 +54,8 @@ keeps-turn c o e =
       disclosed = eqb-true (new-disclosed c o) (o .disclosed) (not-false (eqb (new-disclosed c o) (o .disclosed)) (b .1));
     }
 
-pub amended-row : (c : Change) (o : Order) → Permitted c o → loses-turn c o ≡ false → row-of (amended c o) ≡ changed-row c (o .turn) (min (o .shown) (new-leaves c o)) (row-of o)
+pub amended-row : (c : Change) (o : Order) → Permitted c o → loses-turn c o ≡ false →
+    row-of (amended c o) ≡ changed-row c (o .turn) (min (o .shown) (new-leaves c o)) (row-of o)
 amended-row c o p e =
     let k = keeps-turn c o e in
     let r : OrderRow = changed-row c (o .turn) (min (o .shown) (new-leaves c o)) (row-of o) in
@@ -82,7 +84,8 @@ changes-amended c o p k =
     let l : amended c o .leaves ≡ new-leaves c o = ap (λ (r : OrderRow). r .leaves) e in
     record { number = refl; side = refl; account = omega (arith, p .above); low = p .low }
 
-pub fits-recalls : (c : Change) (s : Side) (i : ℕ) (o : Order) (f : Floor) → nth (at s (f .queues .stands)) i ≡ Some o → Permitted c o → Calm f → Fits (recalls s i (recalled (f .clock .stamp) c o)) f
+pub fits-recalls : (c : Change) (s : Side) (i : ℕ) (o : Order) (f : Floor) → nth (at s (f .queues .stands)) i ≡ Some o → Permitted c o → Calm f →
+    Fits (recalls s i (recalled (f .clock .stamp) c o)) f
 fits-recalls c s i o f e p k =
     let z = recalled-row (f .clock .stamp) c o p in (
       record { idle = k .idle; was = o; there = e; changes = changes-recalled (f .clock .stamp) c o p },
@@ -90,12 +93,14 @@ fits-recalls c s i o f e p k =
       refl,
     )
 
-pub fits-amends : (c : Change) (i : ℕ) (o : Order) (f : Floor) → nth (at (o .side) (f .queues .stands)) i ≡ Some o → Permitted c o → loses-turn c o ≡ false → Calm f → Fits (amends i (amended c o)) f
+pub fits-amends : (c : Change) (i : ℕ) (o : Order) (f : Floor) → nth (at (o .side) (f .queues .stands)) i ≡ Some o → Permitted c o → loses-turn c o ≡ false →
+    Calm f → Fits (amends i (amended c o)) f
 fits-amends c i o f e p l k =
     (record { idle = k .idle; was = o; there = e; changes = changes-amended c o p l }, record { side = refl; price = keeps-turn c o l .price; turn = refl; number = refl })
 
 module _ (c : Change) (i : ℕ) (o : Order) (f : Floor) (p : Permitted c o) (k : Calm f) (t : Tally) (m : Matches t f) where
-  pub match-amends : (e : nth (at (o .side) (f .queues .stands)) i ≡ Some o) (l : loses-turn c o ≡ false) → Roomy (amends i (amended c o)) f → Matches (note-change (change c) (o .number) t) (happen (amends i (amended c o)) f)
+  pub match-amends : (e : nth (at (o .side) (f .queues .stands)) i ≡ Some o) (l : loses-turn c o ≡ false) → Roomy (amends i (amended c o)) f →
+      Matches (note-change (change c) (o .number) t) (happen (amends i (amended c o)) f)
   match-amends e l room =
       let o′ : Order = amended c o in
       let ev : Event = amends i o′ in
@@ -122,7 +127,9 @@ module _ (c : Change) (i : ℕ) (o : Order) (f : Floor) (p : Permitted c o) (k :
         );
       }
 
-  pub match-recalls : (s : Side) (e : nth (at s (f .queues .stands)) i ≡ Some o) (l : loses-turn c o ≡ true) → Roomy (recalls s i (recalled (f .clock .stamp) c o)) f → Matches (note-change (change c) (o .number) t) (happen (recalls s i (recalled (f .clock .stamp) c o)) f)
+  pub match-recalls : (s : Side) (e : nth (at s (f .queues .stands)) i ≡ Some o) (l : loses-turn c o ≡ true) →
+      Roomy (recalls s i (recalled (f .clock .stamp) c o)) f →
+      Matches (note-change (change c) (o .number) t) (happen (recalls s i (recalled (f .clock .stamp) c o)) f)
   match-recalls s e l room =
       let o′ : Order = recalled (f .clock .stamp) c o in
       let ev : Event = recalls s i o′ in

@@ -89,7 +89,8 @@ new-number m n lots old h = by-number m n (λ b. cond b lots old ≡ old + cond 
 old-number : (m n lots left new was old : ℕ) → (m ≡ n → old ≡ was) → lots + left ≡ new + was → cond (eqb m n) lots old + counting n m left ≡ old + counting n m new
 old-number m n lots left new was old h k = by-number m n (λ b. cond b lots old + cond b left 0 ≡ old + cond b new 0) (λ e. let z = h e in omega arith) (λ _. omega arith)
 
-newcomer : (o : Order) (f : Floor) (n : ℕ) → Arrives o f → Counts f → cond (eqb (o .number) n) (o .quantity) (quantity-of n (tape f)) ≡ quantity-of n (tape f) + open-of n o
+newcomer : (o : Order) (f : Floor) (n : ℕ) → Arrives o f → Counts f →
+    cond (eqb (o .number) n) (o .quantity) (quantity-of n (tape f)) ≡ quantity-of n (tape f) + open-of n o
 newcomer o f n h k = ap (λ m. cond (eqb (o .number) n) m (quantity-of n (tape f))) (sym (h .whole)) ∙ new-number (o .number) n (o .leaves) (quantity-of n (tape f)) (λ e. k .unborn n (omega (arith, h .new)))
 
 known-at : (l : List Line) (p : Place) (o : Order) → unknown l p o ≡ 0 → quantity-of (o .number) l ≡ o .quantity
@@ -181,7 +182,8 @@ single-coming (amends i o) f h k n = inl (let z : one-of n stands o ≡ one-of n
 single-coming (recalls s i o) f h k n = inl (let z : one-of n incoming o ≡ one-of n stands (h .0 .was) = ap (λ m. counting n m 1) (h .0 .changes .number) in omega (arith, recalled-is s i o f h (one-of n)))
 
 -- what is not known after a line A or R of number m either was not known or has that number
-still-known : (m lots : ℕ) (l : List Line) (p : Place) (o : Order) → cond {A = ℕ} (eqb (cond (eqb m (o .number)) lots (quantity-of (o .number) l)) (o .quantity)) 0 1 ≤ unknown l p o + one-of m p o
+still-known : (m lots : ℕ) (l : List Line) (p : Place) (o : Order) →
+    cond {A = ℕ} (eqb (cond (eqb m (o .number)) lots (quantity-of (o .number) l)) (o .quantity)) 0 1 ≤ unknown l p o + one-of m p o
 still-known m lots l p o = by-number m (o .number) (λ b. cond {A = ℕ} (eqb (cond b lots (quantity-of (o .number) l)) (o .quantity)) 0 1 ≤ unknown l p o + one-of m p o)
     (λ e. let z : one-of m p o ≡ 1 = rw (eq-eqb (o .number) m (sym e)) refl in omega (arith, at-most (eqb lots (o .quantity))))
     (λ _. omega arith)
@@ -191,10 +193,12 @@ still-known m lots l p o = by-number m (o .number) (λ b. cond {A = ℕ} (eqb (c
     at-most false = omega arith
 
 -- after a line A or R of number m, where the orders left alone have other numbers
-known-others : (m lots : ℕ) (l : List Line) (q : Queues) (h : Option Order) (u : Measure) → ((p : Place) (o : Order) → u p o ≤ unknown l p o + one-of m p o) → over (unknown l) q h ≡ 0 → over (one-of m) q h ≡ 0 → over u q h ≡ 0
+known-others : (m lots : ℕ) (l : List Line) (q : Queues) (h : Option Order) (u : Measure) → ((p : Place) (o : Order) → u p o ≤ unknown l p o + one-of m p o) →
+    over (unknown l) q h ≡ 0 → over (one-of m) q h ≡ 0 → over u q h ≡ 0
 known-others m lots l q h u le a b = omega (arith, over-le q h u (λ p o. unknown l p o + one-of m p o) le, over-plus q h (unknown l) (one-of m))
 
-known-new : (m lots : ℕ) (l : List Line) (o : Order) → o .number ≡ m → o .quantity ≡ lots → cond {A = ℕ} (eqb (cond (eqb m (o .number)) lots (quantity-of (o .number) l)) (o .quantity)) 0 1 ≡ 0
+known-new : (m lots : ℕ) (l : List Line) (o : Order) → o .number ≡ m → o .quantity ≡ lots →
+    cond {A = ℕ} (eqb (cond (eqb m (o .number)) lots (quantity-of (o .number) l)) (o .quantity)) 0 1 ≡ 0
 known-new m lots l o e w = rw (cond-true (eqb m (o .number)) lots (quantity-of (o .number) l) (eq-eqb m (o .number) (sym e)), eq-eqb lots (o .quantity) (sym w)) refl
 
 module _ (e : Event) (f : Floor) (fit : Fits e f) (k : Counts f) where

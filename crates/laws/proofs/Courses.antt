@@ -80,7 +80,8 @@ well-trade o r f h g s =
     go again e = put-back-done r (renewed (f .clock .stamp) (deal o r) r) f refl refl e g s
     go kept e = tt
 
-well-meets : (o : Order) (l : List Order) (f : Floor) → f .hand ≡ Some o → at (other (o .side)) (f .queues .stands) ≡ l → Good (f .queues) → Single f → Put-well (meets o (order-in (mapped Standing (nth l 0))) (f .queues)) f
+well-meets : (o : Order) (l : List Order) (f : Floor) → f .hand ≡ Some o → at (other (o .side)) (f .queues .stands) ≡ l → Good (f .queues) → Single f →
+    Put-well (meets o (order-in (mapped Standing (nth l 0))) (f .queues)) f
 well-meets o [] f h e g s = well-leftover o f h s
 well-meets o (r ∷ rest) f h e g s =
     cond-both (within (o .side) (o .price) (r .price)) (cond (same-investor o r) (drops OwnInvestor o) (trades o r)) (leftover o (f .queues)) (λ e. Put-well e f)
@@ -159,7 +160,8 @@ well-kind Market a f c = go (first-order (other (a .side)) (f .queues))
     go (Some r) = well-judged a (order-from a (r .price) (f .clock .stamp)) f
 well-kind (StopLimit limit trigger) a f c = go (put-answer (Waiting (stop-from trigger (order-from a limit (f .clock .stamp)))) (f .queues)) refl
   where
-    go : (p : Put) → put-answer (Waiting (stop-from trigger (order-from a limit (f .clock .stamp)))) (f .queues) ≡ p → Put-well (parks-or-not p (stop-from trigger (order-from a limit (f .clock .stamp)))) f
+    go : (p : Put) → put-answer (Waiting (stop-from trigger (order-from a limit (f .clock .stamp)))) (f .queues) ≡ p →
+        Put-well (parks-or-not p (stop-from trigger (order-from a limit (f .clock .stamp)))) f
     go Done e = e
     go Full e = (stop-from trigger (order-from a limit (f .clock .stamp)), refl, e)
     go Twice e = absurd (never-twice (Waiting (stop-from trigger (order-from a limit (f .clock .stamp)))) (f .queues) (omega (arith, absent f (c .sane .counts) (f .clock .stamp) (omega arith))) e)

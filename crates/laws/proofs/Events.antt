@@ -186,12 +186,14 @@ one-itself p o = rw (eq-eqb (o .number) (o .number) refl) refl
 rank-itself : (k : Rank) → same-rank k k ≡ true
 rank-itself k = grind (arith, tells)
 
-pub rewrites : (i : ℕ) (x o : Order) (q : Queues) → nth (at (o .side) (q .stands)) i ≡ Some x → rank-of x ≡ rank-of o → rewritten i (Standing o) q ≡ record-set i (Standing o) q
+pub rewrites : (i : ℕ) (x o : Order) (q : Queues) → nth (at (o .side) (q .stands)) i ≡ Some x → rank-of x ≡ rank-of o →
+    rewritten i (Standing o) q ≡ record-set i (Standing o) q
 rewrites i x o q e k =
     cond-true (rewrite-fits i (Standing o) q) (record-set i (Standing o) q) q (ap (ranks-as rank-of o) e ∙ (ap (λ z. same-rank z (rank-of o)) k ∙ rank-itself (rank-of o)))
 
 -- the book takes back an order that shows again
-pub put-back-done : (r x : Order) (f : Floor) → x .side ≡ r .side → x .number ≡ r .number → nth (at (r .side) (f .queues .stands)) 0 ≡ Some r → Good (f .queues) → Single f →
+pub put-back-done : (r x : Order) (f : Floor) → x .side ≡ r .side → x .number ≡ r .number → nth (at (r .side) (f .queues .stands)) 0 ≡ Some r →
+    Good (f .queues) → Single f →
     put-answer (Standing x) (taken (Orders (r .side)) 0 (f .queues)) ≡ Done
 put-back-done r x f d n e g k =
     let q : Queues = f .queues in
@@ -202,7 +204,8 @@ put-back-done r x f d n e g k =
     put-done (Standing x) t (omega (arith, k (x .number)))
     (subst (λ (z : Side). count (Orders z) t < room (Orders z) t) (sym d) (omega (arith, fewer s q (length-taken (at s (q .stands)) 0 r e), g .bounded (Orders s), same-room s q)))
   where
-    fewer : (s : Side) (q : Queues) → suc (length (removed (at s (q .stands)) 0)) ≡ length (at s (q .stands)) → suc (count (Orders s) (taken (Orders s) 0 q)) ≡ count (Orders s) q
+    fewer : (s : Side) (q : Queues) → suc (length (removed (at s (q .stands)) 0)) ≡ length (at s (q .stands)) →
+        suc (count (Orders s) (taken (Orders s) 0 q)) ≡ count (Orders s) q
     fewer s q w = ap (λ l. suc (length l)) (at-own s (removed (at s (q .stands)) 0) (q .stands)) ∙ w
 
     same-room : (s : Side) (q : Queues) → room (Orders s) (taken (Orders s) 0 q) ≡ room (Orders s) q
@@ -217,7 +220,8 @@ after-fate gone lots stamp r q = taken (Orders (r .side)) 0 q
 after-fate again lots stamp r q = placed (Standing (renewed stamp lots r)) (taken (Orders (r .side)) 0 q)
 after-fate kept lots stamp r q = record-set 0 (Standing (lowered lots r)) q
 
-met-is : (k : Fate) (lots stamp : ℕ) (r : Order) (f : Floor) → nth (at (r .side) (f .queues .stands)) 0 ≡ Some r → Good (f .queues) → Single f → met k (r .side) lots stamp r (f .queues) ≡ after-fate k lots stamp r (f .queues)
+met-is : (k : Fate) (lots stamp : ℕ) (r : Order) (f : Floor) → nth (at (r .side) (f .queues .stands)) 0 ≡ Some r → Good (f .queues) → Single f →
+    met k (r .side) lots stamp r (f .queues) ≡ after-fate k lots stamp r (f .queues)
 unfolding put-back
 met-is gone lots stamp r f e g s = refl
 met-is again lots stamp r f e g s =
@@ -236,7 +240,8 @@ met-trade o r f h g s =
 own-first : (o r : Order) (f : Floor) → Trades o r f → Good (f .queues) → nth (at (r .side) (f .queues .stands)) 0 ≡ Some r
 own-first o r f h g = subst (λ (z : Side). nth (at z (f .queues .stands)) 0 ≡ Some r) (sym (rest-side o r f h g .0)) (h .first)
 
-queued-fate : (g : Measure) (k : Fate) (lots stamp : ℕ) (r : Order) (q : Queues) → nth (at (r .side) (q .stands)) 0 ≡ Some r → queued g (after-fate k lots stamp r q) ≡ queued g (taken (Orders (r .side)) 0 q) + of-fate (g stands) k lots stamp r
+queued-fate : (g : Measure) (k : Fate) (lots stamp : ℕ) (r : Order) (q : Queues) → nth (at (r .side) (q .stands)) 0 ≡ Some r →
+    queued g (after-fate k lots stamp r q) ≡ queued g (taken (Orders (r .side)) 0 q) + of-fate (g stands) k lots stamp r
 queued-fate g gone lots stamp r q e = omega arith
 queued-fate g again lots stamp r q e = queued-put g (renewed stamp lots r) (taken (Orders (r .side)) 0 q)
 queued-fate g kept lots stamp r q e = queued-set g 0 r (lowered lots r) q e

@@ -53,7 +53,8 @@ behind-key : (s : Side) (x o r : Price) → Low o → within s o r ≡ true → 
 behind-key Buy x o r l w b c = let k = leb-true (level r) (level o) w in omega (arith, b refl)
 behind-key Sell x o r l w b c = let k = leb-true (level o) (level r) w in omega (arith, c refl)
 
-all-behind : (s : Side) (o r : Order) (b : Both (List Order)) → o .side ≡ s → Low (o .price) → within s (o .price) (r .price) ≡ true → All (Sided s) (at s b) → Clear (other s) b r → All (λ (x : Order). before (rank-of x) (rank-of o) ≡ false) (at s b)
+all-behind : (s : Side) (o r : Order) (b : Both (List Order)) → o .side ≡ s → Low (o .price) → within s (o .price) (r .price) ≡ true → All (Sided s) (at s b) →
+    Clear (other s) b r → All (λ (x : Order). before (rank-of x) (rank-of o) ≡ false) (at s b)
 all-behind Buy o r b e l w d c = go (b .buy) d c
   where
     go : (k : List Order) → All (Sided Buy) k → All (λ (x : Order). level (x .price) < level (r .price)) k → All (λ (x : Order). before (rank-of x) (rank-of o) ≡ false) k
@@ -68,7 +69,8 @@ all-behind Buy o r b e l w d c = go (b .buy) d c
         apart z = let u : _≡_ {A = ℕ} 0 1 = cc in omega arith
 all-behind Sell o r b e l w d c = go (b .sell) d c
   where
-    go : (k : List Order) → All (Sided Sell) k → All (λ (x : Order). level (r .price) < level (x .price)) k → All (λ (x : Order). before (rank-of x) (rank-of o) ≡ false) k
+    go : (k : List Order) → All (Sided Sell) k → All (λ (x : Order). level (r .price) < level (x .price)) k →
+        All (λ (x : Order). before (rank-of x) (rank-of o) ≡ false) k
     go [] d h = tt
     go (x ∷ k) d h = (
       later-key (rank-of x) (rank-of o) (subst (λ (z : Side). order-key (o .side) (o .price) < order-key z (x .price)) (sym (d .0 .0)) (subst (λ (z : Side). order-key z (o .price) < order-key Sell (x .price)) (sym e)
@@ -83,7 +85,8 @@ within-itself : (s : Side) (p : Price) → within s p p ≡ true
 within-itself Buy p = le-leb (level p) (level p) (omega arith)
 within-itself Sell p = le-leb (level p) (level p) (omega arith)
 
-first-foremost : (s : Side) (r : Order) (q : Queues) → nth (at s (q .stands)) 0 ≡ Some r → Good q → All (λ (x : Order). before (rank-of x) (rank-of r) ≡ false) (at s (q .stands))
+first-foremost : (s : Side) (r : Order) (q : Queues) → nth (at s (q .stands)) 0 ≡ Some r → Good q →
+    All (λ (x : Order). before (rank-of x) (rank-of r) ≡ false) (at s (q .stands))
 first-foremost s r q e g =
     let n = nth-first (at s (q .stands)) r e in
     let h = subst (Sorted rank-of) (n .1) (g .sorted s) in
@@ -117,7 +120,8 @@ fair-trades o r f fit s t m =
     total-zero g [] e = tt
     total-zero g (x ∷ l) e = (omega arith, total-zero g l (omega arith))
 
-    is-named : (a : Account) → (a .order .number ≡ o .number) ⊎ (a .order .number ≡ r .number) → (eqb (a .order .number) (o .number) || eqb (a .order .number) (r .number)) ≡ true
+    is-named : (a : Account) → (a .order .number ≡ o .number) ⊎ (a .order .number ≡ r .number) →
+        (eqb (a .order .number) (o .number) || eqb (a .order .number) (r .number)) ≡ true
     is-named a (inl k) = or-left (eqb (a .order .number) (o .number)) (eqb (a .order .number) (r .number)) (eq-eqb (a .order .number) (o .number) k)
     is-named a (inr k) = or-right (eqb (a .order .number) (o .number)) (eqb (a .order .number) (r .number)) (eq-eqb (a .order .number) (r .number) k)
 
@@ -133,7 +137,8 @@ fair-trades o r f fit s t m =
     and-false true c e k = e
     and-false false c e k = absurd (both-ways false refl k)
 
-    fair-one : (a : Account) → outside (r .price) (a .order) + ahead-in t (a .order) ≡ 0 → (within (a .order .side) (a .order .price) (r .price) ≡ true) × Foremost t (a .order)
+    fair-one : (a : Account) → outside (r .price) (a .order) + ahead-in t (a .order) ≡ 0 →
+        (within (a .order .side) (a .order .price) (r .price) ≡ true) × Foremost t (a .order)
     fair-one a k =
         let n : ℕ = ahead-in t (a .order) in (
           one-zero (within (a .order .side) (a .order .price) (r .price)) (omega arith),

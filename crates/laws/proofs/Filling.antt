@@ -108,7 +108,8 @@ early-stands Buy f e = all-early (f .clock .stamp) (f .queues .stands .buy) (ome
 early-stands Sell f e = all-early (f .clock .stamp) (f .queues .stands .sell) (omega arith)
 
 -- the queue that a trade met, when all that its first order shows was traded
-queue-worn : (o r : Order) (rest : List Order) (f : Floor) → Trades o r f → Good (f .queues) → Single f → at (other (o .side)) (f .queues .stands) ≡ r ∷ rest → deal o r ≡ r .shown →
+queue-worn : (o r : Order) (rest : List Order) (f : Floor) → Trades o r f → Good (f .queues) → Single f → at (other (o .side)) (f .queues .stands) ≡ r ∷ rest →
+    deal o r ≡ r .shown →
     at (other (o .side)) (happen (trades o r) f .queues .stands) ≡ worn (f .clock .stamp) r rest
 queue-worn o r rest f h g s e k =
     let z : Side = other (o .side) in
@@ -119,7 +120,8 @@ queue-worn o r rest f h g s e k =
     (subst (λ (y : Side). at y (after-fate (fate (r .shown) r) (r .shown) n r (f .queues) .stands) ≡ worn n r rest) d
     (go (subst (λ (y : Side). at y (f .queues .stands) ≡ r ∷ rest) (sym d) e))))
   where
-    go : at (r .side) (f .queues .stands) ≡ r ∷ rest → at (r .side) (after-fate (fate (r .shown) r) (r .shown) (f .clock .stamp) r (f .queues) .stands) ≡ worn (f .clock .stamp) r rest
+    go : at (r .side) (f .queues .stands) ≡ r ∷ rest →
+        at (r .side) (after-fate (fate (r .shown) r) (r .shown) (f .clock .stamp) r (f .queues) .stands) ≡ worn (f .clock .stamp) r rest
     go e = cases (eqb (r .leaves) (r .shown)) refl
       where
         n : ℕ
@@ -171,7 +173,8 @@ settle-trades (suc k) f o s h w m = go (at (other (o .side)) (f .queues .stands)
         early : All (λ (y : Order). y .turn < f .clock .stamp) (r ∷ rest)
         early = subst (All (λ (y : Order). y .turn < f .clock .stamp)) e (early-stands (other (o .side)) f (s .early))
 
-        trade : within (o .side) (o .price) (r .price) ≡ true → same-investor o r ≡ false → min (o .leaves) (reach o (r ∷ rest)) + traded-on (o .number) f ≤ traded-on (o .number) (settle (suc k) f)
+        trade : within (o .side) (o .price) (r .price) ≡ true → same-investor o r ≡ false →
+            min (o .leaves) (reach o (r ∷ rest)) + traded-on (o .number) f ≤ traded-on (o .number) (settle (suc k) f)
         trade a b =
             let ev : Event = trades o r in
             let n : ℕ = o .number in
@@ -202,11 +205,13 @@ settle-trades (suc k) f o s h w m = go (at (other (o .side)) (f .queues .stands)
             (λ (c : o .leaves ≤ r .shown). omega arith)
             (cases-lt (r .shown) (o .leaves))
 
-        by-investor : (b : Bool) → within (o .side) (o .price) (r .price) ≡ true → same-investor o r ≡ b → min (o .leaves) (reach o (r ∷ rest)) + traded-on (o .number) f ≤ traded-on (o .number) (settle (suc k) f)
+        by-investor : (b : Bool) → within (o .side) (o .price) (r .price) ≡ true → same-investor o r ≡ b →
+            min (o .leaves) (reach o (r ∷ rest)) + traded-on (o .number) f ≤ traded-on (o .number) (settle (suc k) f)
         by-investor true a i = stuck (reach o (r ∷ rest)) (reach-own o r rest (and-from (same-investor o r) (within (o .side) (o .price) (r .price)) i a) sorted sided)
         by-investor false a i = trade a i
 
-        by-limit : (b : Bool) → within (o .side) (o .price) (r .price) ≡ b → min (o .leaves) (reach o (r ∷ rest)) + traded-on (o .number) f ≤ traded-on (o .number) (settle (suc k) f)
+        by-limit : (b : Bool) → within (o .side) (o .price) (r .price) ≡ b →
+            min (o .leaves) (reach o (r ∷ rest)) + traded-on (o .number) f ≤ traded-on (o .number) (settle (suc k) f)
         by-limit true a = by-investor (same-investor o r) a refl
         by-limit false a = stuck (reach o (r ∷ rest)) (reach-beyond o (r ∷ rest) (beyond-first (o .side) (o .price) r rest sorted sided a))
 

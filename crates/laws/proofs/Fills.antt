@@ -173,7 +173,8 @@ module _ (a : Asked) (f : Floor) (p : Proper a) (u : Open-terms a) (s : Supplied
 
 -- in every state of a run
 
-filled-told : (form : EntryForm) (f : Floor) (a : Asked) (r : Result Asked Refusal) → Calm f → In-ok (Entry-given form f) r → Open-terms a → read-entry form ≡ Ok a → answered r ≡ Ok tt → Filled a (traded-on (f .clock .stamp) (left-by enter r f))
+filled-told : (form : EntryForm) (f : Floor) (a : Asked) (r : Result Asked Refusal) → Calm f → In-ok (Entry-given form f) r → Open-terms a →
+    read-entry form ≡ Ok a → answered r ≡ Ok tt → Filled a (traded-on (f .clock .stamp) (left-by enter r f))
 filled-told form f a (Ok b) c h u e k =
     let z : b ≡ a = same b a (sym (h .2) ∙ e) in
     subst (λ (x : Asked). Filled a (traded-on (f .clock .stamp) (enter x f))) (sym z) (filled-enter a f (subst Proper z (h .0)) u (h .1) c)
@@ -182,7 +183,8 @@ filled-told form f a (Ok b) c h u e k =
     same x y e = cc
 filled-told form f a (Err x) c h u e k = let z : _≡_ {A = ℕ} 0 1 = cc in absurd (omega arith)
 
-filled-on : (d : Day) (form : EntryForm) (q : Queues) (r : Reel) (a : Asked) → Calm (floor-of q r (clock-of d)) → Open-terms a → read-entry form ≡ Ok a → answer-on d (Entry form) q r ≡ Ok tt → Filled a (total (traded-lots (clock-of d .stamp)) (step-on d (Entry form) q r .reel .lines))
+filled-on : (d : Day) (form : EntryForm) (q : Queues) (r : Reel) (a : Asked) → Calm (floor-of q r (clock-of d)) → Open-terms a → read-entry form ≡ Ok a →
+    answer-on d (Entry form) q r ≡ Ok tt → Filled a (total (traded-lots (clock-of d .stamp)) (step-on d (Entry form) q r .reel .lines))
 filled-on (Open o) form q r a c u e k =
     let f : Floor = floor-of q r (o .clock) in
     filled-told form f a (entry-told form f) c (entry-given form f) u e k

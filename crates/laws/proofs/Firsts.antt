@@ -37,13 +37,15 @@ one-side Buy Sell b h = refl
 one-side Sell Buy b h = refl
 one-side Sell Sell b h = rw (h refl) refl
 
-none-in-queue : (z s : Side) (q : OrderRow → Bool) (l : List Order) → All (Sided s) l → (s ≡ z → All (λ x. q (row-of x) ≡ false) l) → total (λ (x : Order). cond (same-side (x .side) z && q (row-of x)) 1 0) l ≡ 0
+none-in-queue : (z s : Side) (q : OrderRow → Bool) (l : List Order) → All (Sided s) l → (s ≡ z → All (λ x. q (row-of x) ≡ false) l) →
+    total (λ (x : Order). cond (same-side (x .side) z && q (row-of x)) 1 0) l ≡ 0
 none-in-queue z s q [] d h = refl
 none-in-queue z s q (x ∷ l) d h =
     let a : cond {A = ℕ} (same-side (x .side) z && q (row-of x)) 1 0 ≡ 0 = subst (λ (u : Side). cond {A = ℕ} (same-side u z && q (row-of x)) 1 0 ≡ 0) (sym (d .0 .0)) (one-side z s (q (row-of x)) (λ e. h e .0)) in
     omega (arith, none-in-queue z s q l (d .1) (λ e. h e .1))
 
-pub none-stands : (z : Side) (q : OrderRow → Bool) (f : Floor) → Good (f .queues) → All (λ x. q (row-of x) ≡ false) (at z (f .queues .stands)) → everywhere (by-row (λ p r. cond (stands-on z p r && q r) 1 0)) f ≡ 0
+pub none-stands : (z : Side) (q : OrderRow → Bool) (f : Floor) → Good (f .queues) → All (λ x. q (row-of x) ≡ false) (at z (f .queues .stands)) →
+    everywhere (by-row (λ p r. cond (stands-on z p r && q r) 1 0)) f ≡ 0
 none-stands z q f g h =
     let k : View = λ p r. cond (stands-on z p r && q r) 1 0 in
     let a : total (by-row k stands) (f .queues .stands .buy) ≡ 0 = none-in-queue z Buy q (f .queues .stands .buy) (g .sided Buy) (λ e. subst (λ (s : Side). All (λ x. q (row-of x) ≡ false) (at s (f .queues .stands))) (sym e) h) in
@@ -114,7 +116,8 @@ first-is s p (a ∷ l) e h = go (stands-on s (a .place) (a .order)) refl (zero-o
     first None k = refl
     first (Some q) k = cond-false (better s q p) q p k
 
-    go : (b : Bool) → stands-on s (a .place) (a .order) ≡ b → (b && better s (a .order .price) p) ≡ false → (1 ≤ count-if s (λ q. same-price q p) l → first-price s l ≡ Some p) → At-most s p (first-price s l) →
+    go : (b : Bool) → stands-on s (a .place) (a .order) ≡ b → (b && better s (a .order .price) p) ≡ false →
+        (1 ≤ count-if s (λ q. same-price q p) l → first-price s l ≡ Some p) → At-most s p (first-price s l) →
         1 ≤ cond (stands-on s (a .place) (a .order) && same-price (a .order .price) p) 1 0 + count-if s (λ q. same-price q p) l →
         cond b (Some (better-of s (a .order .price) (first-price s l))) (first-price s l) ≡ Some p
     go false k z ih bound n = ih (let n′ : 1 ≤ 0 + count-if s (λ q. same-price q p) l = subst (λ b. 1 ≤ cond (b && same-price (a .order .price) p) 1 0 + count-if s (λ q. same-price q p) l) k n in omega arith)
@@ -132,7 +135,8 @@ no-better-key : (s : Side) (p q : Price) → Low p → Low q → order-key s p �
 no-better-key Buy p q lp lq h = le-ltb (level p) (level q) (omega arith)
 no-better-key Sell p q lp lq h = le-ltb (level q) (level p) (omega arith)
 
-pub none-better : (s : Side) (r : Order) (l : List Order) → Sided s r → All (Sided s) l → All (λ y. before (rank-of y) (rank-of r) ≡ false) l → All (λ (x : Order). better s (x .price) (r .price) ≡ false) l
+pub none-better : (s : Side) (r : Order) (l : List Order) → Sided s r → All (Sided s) l → All (λ y. before (rank-of y) (rank-of r) ≡ false) l →
+    All (λ (x : Order). better s (x .price) (r .price) ≡ false) l
 none-better s r [] dr d h = tt
 none-better s r (x ∷ l) dr d h =
     let k : order-key (r .side) (r .price) ≤ order-key (x .side) (x .price) = ranks-lower (rank-of r) (rank-of x) (h .0) in (

@@ -93,11 +93,13 @@ Next? (Some e) f = Next e f
 pub done-room : (e : Record) (q : Queues) → put-answer e q ≡ Done → count (queue-of e) q < room (queue-of e) q
 done-room e q h = go (ltb (count (queue-of e) q) (room (queue-of e) q)) refl h
   where
-    go : (b : Bool) → ltb (count (queue-of e) q) (room (queue-of e) q) ≡ b → cond b (cond (isSome (found (number-of e) q)) Twice Done) Full ≡ Done → count (queue-of e) q < room (queue-of e) q
+    go : (b : Bool) → ltb (count (queue-of e) q) (room (queue-of e) q) ≡ b → cond b (cond (isSome (found (number-of e) q)) Twice Done) Full ≡ Done →
+        count (queue-of e) q < room (queue-of e) q
     go true k _ = ltb-true (count (queue-of e) q) (room (queue-of e) q) k
     go false k z = let u : _≡_ {A = ℕ} 0 1 = cc in absurd (omega arith)
 
-next-stands : (p : Put) (o : Order) (f : Floor) → put-answer (Standing o) (f .queues) ≡ p → f .hand ≡ Some o → Beyond (o .side) (o .price) (at (other (o .side)) (f .queues .stands)) → Next (stands-or-not p o) f
+next-stands : (p : Put) (o : Order) (f : Floor) → put-answer (Standing o) (f .queues) ≡ p → f .hand ≡ Some o →
+    Beyond (o .side) (o .price) (at (other (o .side)) (f .queues .stands)) → Next (stands-or-not p o) f
 next-stands Done o f e h b = (record { in-hand = h; beyond = b; room-left = done-room (Standing o) (f .queues) e }, tt)
 next-stands Full o f e h b = (h, tt)
 next-stands Twice o f e h b = (h, tt)
@@ -107,7 +109,8 @@ next-leftover o f h b =
     cond-both (fleeting (o .validity)) (drops Leftover o) (stands-or-not (put-answer (Standing o) (f .queues)) o) (λ e. Next e f) (λ _. (h, tt))
     (λ _. next-stands (put-answer (Standing o) (f .queues)) o f refl h b)
 
-next-meets : (o : Order) (l : List Order) (f : Floor) → f .hand ≡ Some o → at (other (o .side)) (f .queues .stands) ≡ l → Good (f .queues) → Next (meets o (order-in (mapped Standing (nth l 0))) (f .queues)) f
+next-meets : (o : Order) (l : List Order) (f : Floor) → f .hand ≡ Some o → at (other (o .side)) (f .queues .stands) ≡ l → Good (f .queues) →
+    Next (meets o (order-in (mapped Standing (nth l 0))) (f .queues)) f
 next-meets o [] f h e g = next-leftover o f h (rw e tt)
 next-meets o (r ∷ rest) f h e g =
     let s : Side = other (o .side) in
@@ -124,7 +127,8 @@ ripe-first s last (y ∷ l) x e = go (ripe s last (y .trigger)) e
     go true e = e
     go false e = let z : _≡_ {A = ℕ} 0 1 = cc in absurd (omega arith)
 
-next-sooner : (f : Floor) (a b : Option Stop) → f .hand ≡ None → ((x : Stop) → a ≡ Some x → nth (at Buy (f .queues .waits)) 0 ≡ Some x) → ((y : Stop) → b ≡ Some y → nth (at Sell (f .queues .waits)) 0 ≡ Some y) → Next? (firing (sooner a b)) f
+next-sooner : (f : Floor) (a b : Option Stop) → f .hand ≡ None → ((x : Stop) → a ≡ Some x → nth (at Buy (f .queues .waits)) 0 ≡ Some x) →
+    ((y : Stop) → b ≡ Some y → nth (at Sell (f .queues .waits)) 0 ≡ Some y) → Next? (firing (sooner a b)) f
 next-sooner f None None h p q = tt
 next-sooner f (Some x) None h p q = ((h, p x refl), tt)
 next-sooner f None (Some y) h p q = ((h, q y refl), tt)
@@ -197,14 +201,16 @@ settled-ends f = settle-ends (weight f) f (omega arith)
 
 -- at rest nothing is on its way, and no stop is ripe
 
-unripe-behind : (s : Side) (last : Option Price) (x y : Stop) → Stop-sided s x → Stop-sided s y → before (stop-rank-of y) (stop-rank-of x) ≡ false → ripe s last (x .trigger) ≡ false → ripe s last (y .trigger) ≡ false
+unripe-behind : (s : Side) (last : Option Price) (x y : Stop) → Stop-sided s x → Stop-sided s y → before (stop-rank-of y) (stop-rank-of x) ≡ false →
+    ripe s last (x .trigger) ≡ false → ripe s last (y .trigger) ≡ false
 unripe-behind s None x y dx dy b e = e
 unripe-behind s (Some p) x y dx dy b e =
     no-riper s p (x .trigger) (y .trigger) (x .order .turn) (x .order .number) (y .order .turn) (y .order .number) (dx .2) (dy .2) e
     (subst (λ z. before (record { key = stop-key z (y .trigger); turn = y .order .turn; number = y .order .number }) (record { key = stop-key s (x .trigger); turn = x .order .turn; number = x .order .number }) ≡ false) (dy .0)
     (subst (λ z. before (stop-rank-of y) (record { key = stop-key z (x .trigger); turn = x .order .turn; number = x .order .number }) ≡ false) (dx .0) b))
 
-unripe-list : (s : Side) (last : Option Price) (l : List Stop) → Sorted stop-rank-of l → All (Stop-sided s) l → if-ripe s last (stop-in (mapped Waiting (nth l 0))) ≡ None → All (λ (x : Stop). ripe s last (x .trigger) ≡ false) l
+unripe-list : (s : Side) (last : Option Price) (l : List Stop) → Sorted stop-rank-of l → All (Stop-sided s) l →
+    if-ripe s last (stop-in (mapped Waiting (nth l 0))) ≡ None → All (λ (x : Stop). ripe s last (x .trigger) ≡ false) l
 unripe-list s last [] h d e = tt
 unripe-list s last (x ∷ l) h d e = let u = go (ripe s last (x .trigger)) refl e in (u, behind l (h .0) (d .1) u)
   where
@@ -212,7 +218,8 @@ unripe-list s last (x ∷ l) h d e = let u = go (ripe s last (x .trigger)) refl 
     go true k z = let u : _≡_ {A = ℕ} 0 1 = cc in absurd (omega arith)
     go false k z = k
 
-    behind : (l : List Stop) → All (λ y. before (stop-rank-of y) (stop-rank-of x) ≡ false) l → All (Stop-sided s) l → ripe s last (x .trigger) ≡ false → All (λ (x : Stop). ripe s last (x .trigger) ≡ false) l
+    behind : (l : List Stop) → All (λ y. before (stop-rank-of y) (stop-rank-of x) ≡ false) l → All (Stop-sided s) l → ripe s last (x .trigger) ≡ false →
+        All (λ (x : Stop). ripe s last (x .trigger) ≡ false) l
     behind [] b c u = tt
     behind (y ∷ l) b c u = (unripe-behind s last x y (d .0) (c .0) (b .0) u, behind l (b .1) (c .1) u)
 

@@ -132,7 +132,8 @@ unnumbered : {X : Type 0} (f : X → ℕ) (n : ℕ) (l : List X) → total (λ x
 unnumbered f n [] e = refl
 unnumbered f n (x ∷ l) e = go (eqb (f x) n) (unnumbered f n l) e
   where
-    go : (b : Bool) → (total (λ x. cond (eqb (f x) n) 1 0) l ≡ 0 → number-at f n l ≡ length l) → cond b 1 0 + total (λ x. cond (eqb (f x) n) 1 0) l ≡ 0 → cond (not b) (1 + number-at f n l) 0 ≡ suc (length l)
+    go : (b : Bool) → (total (λ x. cond (eqb (f x) n) 1 0) l ≡ 0 → number-at f n l ≡ length l) → cond b 1 0 + total (λ x. cond (eqb (f x) n) 1 0) l ≡ 0 →
+        cond (not b) (1 + number-at f n l) 0 ≡ suc (length l)
     go true ih z = absurd (omega arith)
     go false ih z = omega (arith, ih (omega arith))
 

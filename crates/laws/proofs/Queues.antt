@@ -91,7 +91,8 @@ uncrossed-with : (s : Side) (l : List Order) (b : Both (List Order)) → All (Cl
 uncrossed-with Buy l b h = h
 uncrossed-with Sell l b h = all-flip (λ (y x : Order). level (x .price) < level (y .price)) l (b .buy) h
 
-pub good-stands : (s : Side) (l : List Order) (q : Queues) → Good q → length l ≤ at s (q .stands-room) → Sorted rank-of l → All (Sided s) l → All (Clear s (q .stands)) l → Good (with-stands s l q)
+pub good-stands : (s : Side) (l : List Order) (q : Queues) → Good q → length l ≤ at s (q .stands-room) → Sorted rank-of l → All (Sided s) l →
+    All (Clear s (q .stands)) l → Good (with-stands s l q)
 good-stands s l q g n o d c = record {
   bounded = elim [ Orders t ↦ at-with (λ t l. length l ≤ at t (q .stands-room)) s l (q .stands) n (λ t. g .bounded (Orders t)) t | Stops t ↦ g .bounded (Stops t) ];
   sorted = at-with (λ t l. Sorted rank-of l) s l (q .stands) o (g .sorted);
@@ -101,7 +102,8 @@ good-stands s l q g n o d c = record {
   uncrossed = uncrossed-with s l (q .stands) c;
 }
 
-pub good-waits : (s : Side) (l : List Stop) (q : Queues) → Good q → length l ≤ at s (q .waits-room) → Sorted stop-rank-of l → All (Stop-sided s) l → Good (with-waits s l q)
+pub good-waits : (s : Side) (l : List Stop) (q : Queues) → Good q → length l ≤ at s (q .waits-room) → Sorted stop-rank-of l → All (Stop-sided s) l →
+    Good (with-waits s l q)
 good-waits s l q g n o d = record {
   bounded = elim [ Orders t ↦ g .bounded (Orders t) | Stops t ↦ at-with (λ t l. length l ≤ at t (q .waits-room)) s l (q .waits) n (λ t. g .bounded (Stops t)) t ];
   sorted = g .sorted;
@@ -123,14 +125,16 @@ good-stop-cut s i x q e g =
     (sorted-removed stop-rank-of (at s (q .waits)) i (g .stops-sorted s)) (all-removed (Stop-sided s) (at s (q .waits)) i (g .stops-sided s))
 
 -- after a put
-pub good-put : (o : Order) (q : Queues) → count (Orders (o .side)) q < room (Orders (o .side)) q → Low (o .price) → Clear (o .side) (q .stands) o → Good q → Good (placed (Standing o) q)
+pub good-put : (o : Order) (q : Queues) → count (Orders (o .side)) q < room (Orders (o .side)) q → Low (o .price) → Clear (o .side) (q .stands) o → Good q →
+    Good (placed (Standing o) q)
 good-put o q n p c g =
     let s : Side = o .side in
     let l : List Order = at s (q .stands) in
     good-stands s (put-in rank-of o l) q g (omega (arith, length-put-in rank-of o l)) (sorted-put-in rank-of o l (g .sorted s)) (all-put-in rank-of (Sided s) o l (refl, p) (g .sided s))
     (all-put-in rank-of (Clear s (q .stands)) o l c (all-clear s (q .stands) (g .uncrossed)))
 
-pub good-stop-put : (x : Stop) (q : Queues) → count (Stops (x .order .side)) q < room (Stops (x .order .side)) q → Low (x .order .price) → Low (x .trigger) → Good q → Good (placed (Waiting x) q)
+pub good-stop-put : (x : Stop) (q : Queues) → count (Stops (x .order .side)) q < room (Stops (x .order .side)) q → Low (x .order .price) → Low (x .trigger) →
+    Good q → Good (placed (Waiting x) q)
 good-stop-put x q n p t g =
     let s : Side = x .order .side in
     let l : List Stop = at s (q .waits) in
@@ -180,7 +184,9 @@ clear-beyond o Sell b h = all-weaker (λ (a : Order). leb (level (o .price)) (le
 pub ranks-lower : (a b : Rank) → before b a ≡ false → a .key ≤ b .key
 ranks-lower a b h = grind (arith, tells)
 
-pub no-better : (s : Side) (limit p p′ : Price) (t n t′ n′ : ℕ) → Low p → Low p′ → within s limit p ≡ false → before (record { key = order-key (other s) p′; turn = t′; number = n′ }) (record { key = order-key (other s) p; turn = t; number = n }) ≡ false → within s limit p′ ≡ false
+pub no-better : (s : Side) (limit p p′ : Price) (t n t′ n′ : ℕ) → Low p → Low p′ → within s limit p ≡ false →
+    before (record { key = order-key (other s) p′; turn = t′; number = n′ }) (record { key = order-key (other s) p; turn = t; number = n }) ≡ false →
+    within s limit p′ ≡ false
 no-better Buy limit p p′ t n t′ n′ l l′ h k =
     let a = ranks-lower (record { key = level p; turn = t; number = n }) (record { key = level p′; turn = t′; number = n′ }) k in
     lt-leb (level p′) (level limit) (omega (arith, leb-false (level p) (level limit) h))
@@ -189,11 +195,13 @@ no-better Sell limit p p′ t n t′ n′ l l′ h k =
     lt-leb (level limit) (level p′) (omega (arith, leb-false (level limit) (level p) h))
 
 -- the same of stops: buy stops rank by lower trigger, sell stops by higher
-pub no-riper : (s : Side) (last p p′ : Price) (t n t′ n′ : ℕ) → Low p → Low p′ → within s last p ≡ false → before (record { key = stop-key s p′; turn = t′; number = n′ }) (record { key = stop-key s p; turn = t; number = n }) ≡ false → within s last p′ ≡ false
+pub no-riper : (s : Side) (last p p′ : Price) (t n t′ n′ : ℕ) → Low p → Low p′ → within s last p ≡ false →
+    before (record { key = stop-key s p′; turn = t′; number = n′ }) (record { key = stop-key s p; turn = t; number = n }) ≡ false → within s last p′ ≡ false
 no-riper Buy last p p′ t n t′ n′ l l′ h k = no-better Buy last p p′ t n t′ n′ l l′ h k
 no-riper Sell last p p′ t n t′ n′ l l′ h k = no-better Sell last p p′ t n t′ n′ l l′ h k
 
-pub beyond-first : (s : Side) (limit : Price) (r : Order) (rest : List Order) → Sorted rank-of (r ∷ rest) → All (Sided (other s)) (r ∷ rest) → within s limit (r .price) ≡ false → Beyond s limit (r ∷ rest)
+pub beyond-first : (s : Side) (limit : Price) (r : Order) (rest : List Order) → Sorted rank-of (r ∷ rest) → All (Sided (other s)) (r ∷ rest) →
+    within s limit (r .price) ≡ false → Beyond s limit (r ∷ rest)
 beyond-first s limit r rest h d e = (
   e,
   all-weaker (λ a. (before (rank-of a) (rank-of r) ≡ false) × Sided (other s) a) (λ a. within s limit (a .price) ≡ false)

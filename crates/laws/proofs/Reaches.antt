@@ -82,7 +82,8 @@ shown-apart o x p (y ∷ l) e k =
     (λ _. ap (λ n. cond (own o y) 0 (cond (same-price (y .price) p) (y .shown) 0 + n)) (shown-apart o x p l e k))
 
 -- who stands before the first of the own investor is priced no worse
-own-behind : (z : Side) (o : Order) (p : Price) (k : Rank) (l : List Order) → own-price o l ≡ Some p → All (Sided z) l → All (λ y. before (rank-of y) k ≡ false) l → k .key ≤ order-key z p
+own-behind : (z : Side) (o : Order) (p : Price) (k : Rank) (l : List Order) → own-price o l ≡ Some p → All (Sided z) l →
+    All (λ y. before (rank-of y) k ≡ false) l → k .key ≤ order-key z p
 own-behind z o p k [] e d h = let u : _≡_ {A = ℕ} 0 1 = cc in absurd (omega arith)
 own-behind z o p k (y ∷ l) e d h = go (own o y) e (λ q. own-behind z o p k l q (d .1) (h .1))
   where
@@ -97,7 +98,8 @@ behind-all : (a b : Rank) → b .key ≤ a .key → b .turn < a .turn → before
 behind-all a b h k = grind (arith, tells)
 
 -- an order that goes behind its price goes behind the first of the own investor there
-shown-behind : (z : Side) (o x : Order) (p : Price) (l : List Order) → own-price o l ≡ Some p → Sorted rank-of l → All (Sided z) l → All (λ (y : Order). y .turn < x .turn) l → order-key (x .side) (x .price) ≡ order-key z p →
+shown-behind : (z : Side) (o x : Order) (p : Price) (l : List Order) → own-price o l ≡ Some p → Sorted rank-of l → All (Sided z) l →
+    All (λ (y : Order). y .turn < x .turn) l → order-key (x .side) (x .price) ≡ order-key z p →
     shown-ahead o p (put-in rank-of x l) ≡ shown-ahead o p l
 shown-behind z o x p [] e h d t k = let u : _≡_ {A = ℕ} 0 1 = cc in absurd (omega arith)
 shown-behind z o x p (y ∷ l) e h d t k = go (own o y) refl e (shown-behind z o x p l)
@@ -222,7 +224,8 @@ no-parts : (o : Order) (l : List Order) → total parts l ≤ 0 → reach o l �
 no-parts o [] h = refl
 no-parts o (r ∷ l) h = absurd (omega (arith, parts-least r))
 
-pub reach-endless : (k turn : ℕ) (o : Order) (l : List Order) → Sorted rank-of l → All (Sided (other (o .side))) l → All (λ (y : Order). y .turn < turn) l → total parts l ≤ k → reach o l ≡ endless k turn o l
+pub reach-endless : (k turn : ℕ) (o : Order) (l : List Order) → Sorted rank-of l → All (Sided (other (o .side))) l → All (λ (y : Order). y .turn < turn) l →
+    total parts l ≤ k → reach o l ≡ endless k turn o l
 reach-endless zero turn o l h d t m = no-parts o l m
 reach-endless (suc k) turn o [] h d t m = refl
 reach-endless (suc k) turn o (r ∷ l) h d t m =

@@ -39,7 +39,8 @@ abbrev pub In-some : {A : Type 0} → (A → Type 0) → Option A → Type 0
 In-some P (Some x) = P x
 In-some P None = Unit {0}
 
-pub ok-then : {A B : Type 0} (Q : A → Type 0) (P : B → Type 0) (r : Result A Refusal) (k : A → Result B Refusal) → In-ok Q r → ((x : A) → Q x → In-ok P (k x)) → In-ok P (andThen r k)
+pub ok-then : {A B : Type 0} (Q : A → Type 0) (P : B → Type 0) (r : Result A Refusal) (k : A → Result B Refusal) → In-ok Q r → ((x : A) → Q x → In-ok P (k x)) →
+    In-ok P (andThen r k)
 ok-then Q P (Ok x) k h next = next x h
 ok-then Q P (Err e) k h next = tt
 

@@ -20,7 +20,8 @@ reads r h = ap (λ b. cut b r) (fits-from r h)
 pub lowered-row : (lots : ℕ) (o : Order) → lots < o .shown → row-of (lowered lots o) ≡ with-lots (o .turn) (o .leaves - lots) (o .shown - lots) o
 lowered-row lots o h = reads (with-lots (o .turn) (o .leaves - lots) (o .shown - lots) o) (lowered-fits lots o h)
 
-pub renewed-row : (turn lots : ℕ) (o : Order) → lots < o .leaves → row-of (renewed turn lots o) ≡ with-lots turn (o .leaves - lots) (showing (o .disclosed) (o .leaves - lots)) o
+pub renewed-row : (turn lots : ℕ) (o : Order) → lots < o .leaves →
+    row-of (renewed turn lots o) ≡ with-lots turn (o .leaves - lots) (showing (o .disclosed) (o .leaves - lots)) o
 renewed-row turn lots o h = reads (with-lots turn (o .leaves - lots) (showing (o .disclosed) (o .leaves - lots)) o) (renewed-fits turn lots o h)
 
 -- so many lots may be asked for, of which so many are disclosed

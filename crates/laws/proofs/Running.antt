@@ -42,18 +42,22 @@ at-rest g e = ap (λ (h : Option Order). with-hand h) e
     with-hand : Option Order → Floor
     with-hand h = record { queues = g .queues; hand = h; reel = g .reel; clock = g .clock }
 
-idle-ends : (form : Form) (t : Tally) (f : Floor) (r : Result (Unit {0}) Refusal) (g : Floor) → Ends form t f r g → Ends form t f r (floor-of (g .queues) (g .reel) (g .clock))
+idle-ends : (form : Form) (t : Tally) (f : Floor) (r : Result (Unit {0}) Refusal) (g : Floor) → Ends form t f r g →
+    Ends form t f r (floor-of (g .queues) (g .reel) (g .clock))
 idle-ends form t f r g e = subst (Ends form t f r) (at-rest g (e .calm .idle)) e
 
-ends-closing : (r : Result (Unit {0}) Refusal) (d : ℕ) (f : Floor) (t : Tally) → In-ok (λ _. length (tape f) + needed (f .queues) ≤ f .reel .limit) r → Calm f → Matches t f → Ends Closing t f r (floor (after-closing r d f))
+ends-closing : (r : Result (Unit {0}) Refusal) (d : ℕ) (f : Floor) (t : Tally) → In-ok (λ _. length (tape f) + needed (f .queues) ≤ f .reel .limit) r → Calm f →
+    Matches t f → Ends Closing t f r (floor (after-closing r d f))
 ends-closing (Ok x) d f t h c m = idle-ends Closing t f (Ok tt) (pull-daily f) (ends-daily f t (spare-from f h) c m)
 ends-closing (Err e) d f t h c m = idle-ends Closing t f (Err e) f (ends-here Closing t f (Err e) c m)
 
-ends-opening : (form : _) (r : Result ℕ Refusal) (d : ℕ) (f : Floor) (t : Tally) → Calm f → Matches t f → Ends (Opening form) t f (answered r) (floor (after-opening r d f))
+ends-opening : (form : _) (r : Result ℕ Refusal) (d : ℕ) (f : Floor) (t : Tally) → Calm f → Matches t f →
+    Ends (Opening form) t f (answered r) (floor (after-opening r d f))
 ends-opening form (Ok x) d f t c m = idle-ends (Opening form) t f (Ok tt) f (ends-here (Opening form) t f (Ok tt) c m)
 ends-opening form (Err e) d f t c m = idle-ends (Opening form) t f (Err e) f (ends-here (Opening form) t f (Err e) c m)
 
-ends-on : (d : Day) (form : Form) (q : Queues) (r : Reel) (t : Tally) → Calm (floor-of q r (clock-of d)) → Matches t (floor-of q r (clock-of d)) → Ends form t (floor-of q r (clock-of d)) (answer-on d form q r) (floor (step-on d form q r))
+ends-on : (d : Day) (form : Form) (q : Queues) (r : Reel) (t : Tally) → Calm (floor-of q r (clock-of d)) → Matches t (floor-of q r (clock-of d)) →
+    Ends form t (floor-of q r (clock-of d)) (answer-on d form q r) (floor (step-on d form q r))
 ends-on (Open o) (Entry form) q r t c m = idle-ends (Entry form) t _ _ _ (ends-entry form (floor-of q r (o .clock)) t c m)
 ends-on (Open o) (Change form) q r t c m = idle-ends (Change form) t _ _ _ (ends-change form (floor-of q r (o .clock)) t c m)
 ends-on (Open o) (Cancel form) q r t c m = idle-ends (Cancel form) t _ _ _ (ends-cancel form (floor-of q r (o .clock)) t c m)
@@ -129,7 +133,8 @@ match-set-up day stamp q limit = record { sums = λ g. refl; turns = refl }
 
 -- after any list of steps
 
-pub calm-after : (forms : List Form) (s : State) (t : Tally) → Calm (floor s) → Matches t (floor s) → Calm (floor (after forms s)) × Matches (tally-after forms s t) (floor (after forms s))
+pub calm-after : (forms : List Form) (s : State) (t : Tally) → Calm (floor s) → Matches t (floor s) →
+    Calm (floor (after forms s)) × Matches (tally-after forms s t) (floor (after forms s))
 calm-after [] s t c m = (c, m)
 calm-after (form ∷ forms) s t c m = calm-after forms (step form s) (tallied form s t) (ends-step form s t c m .calm) (matches-step form s t c m)
 

@@ -57,7 +57,8 @@ goes-enter a f t p s c m =
 same-stops : (last : Option Price) (i : ℕ) (o : Order) (q : Queues) → Unripe last q → Unripe last (rewritten i (Standing o) q)
 same-stops last i o q h = cond-both (rewrite-fits i (Standing o) q) (record-set i (Standing o) q) q (Unripe last) (λ _. h) (λ _. h)
 
-pub goes-change : (c : Change) (i : ℕ) (o : Order) (f : Floor) (t : Tally) → nth (at (o .side) (f .queues .stands)) i ≡ Some o → Permitted c o → Supplied f → Calm f → Matches t f → Goes (change c) t f (change-at c (o .side) i o f)
+pub goes-change : (c : Change) (i : ℕ) (o : Order) (f : Floor) (t : Tally) → nth (at (o .side) (f .queues .stands)) i ≡ Some o → Permitted c o → Supplied f →
+    Calm f → Matches t f → Goes (change c) t f (change-at c (o .side) i o f)
 goes-change c i o f t there p s k m =
     let away : Event = recalls (o .side) i (recalled (f .clock .stamp) c o) in
     let here : Event = amends i (amended c o) in

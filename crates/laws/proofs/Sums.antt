@@ -51,18 +51,21 @@ everywhere g f = over g (f .queues) (f .hand)
 
 -- one queue changes
 
-queued-stands : (g : Measure) (s : Side) (l : List Order) (q : Queues) → queued g (with-stands s l q) + total (g stands) (at s (q .stands)) ≡ queued g q + total (g stands) l
+queued-stands : (g : Measure) (s : Side) (l : List Order) (q : Queues) →
+    queued g (with-stands s l q) + total (g stands) (at s (q .stands)) ≡ queued g q + total (g stands) l
 queued-stands g Buy l q = omega arith
 queued-stands g Sell l q = omega arith
 
-queued-waits : (g : Measure) (s : Side) (l : List Stop) (q : Queues) → queued g (with-waits s l q) + total (of-stop g) (at s (q .waits)) ≡ queued g q + total (of-stop g) l
+queued-waits : (g : Measure) (s : Side) (l : List Stop) (q : Queues) →
+    queued g (with-waits s l q) + total (of-stop g) (at s (q .waits)) ≡ queued g q + total (of-stop g) l
 queued-waits g Buy l q = omega arith
 queued-waits g Sell l q = omega arith
 
 pub queued-cut : (g : Measure) (s : Side) (i : ℕ) (o : Order) (q : Queues) → nth (at s (q .stands)) i ≡ Some o → queued g (taken (Orders s) i q) + g stands o ≡ queued g q
 queued-cut g s i o q e = omega (arith, queued-stands g s (removed (at s (q .stands)) i) q, total-removed (g stands) (at s (q .stands)) i o e)
 
-pub queued-stop-cut : (g : Measure) (s : Side) (i : ℕ) (x : Stop) (q : Queues) → nth (at s (q .waits)) i ≡ Some x → queued g (taken (Stops s) i q) + g waits (x .order) ≡ queued g q
+pub queued-stop-cut : (g : Measure) (s : Side) (i : ℕ) (x : Stop) (q : Queues) → nth (at s (q .waits)) i ≡ Some x →
+    queued g (taken (Stops s) i q) + g waits (x .order) ≡ queued g q
 queued-stop-cut g s i x q e = omega (arith, queued-waits g s (removed (at s (q .waits)) i) q, total-removed (of-stop g) (at s (q .waits)) i x e)
 
 pub queued-put : (g : Measure) (o : Order) (q : Queues) → queued g (placed (Standing o) q) ≡ queued g q + g stands o
@@ -71,7 +74,8 @@ queued-put g o q = omega (arith, queued-stands g (o .side) (put-in rank-of o (at
 pub queued-stop-put : (g : Measure) (x : Stop) (q : Queues) → queued g (placed (Waiting x) q) ≡ queued g q + g waits (x .order)
 queued-stop-put g x q = omega (arith, queued-waits g (x .order .side) (put-in stop-rank-of x (at (x .order .side) (q .waits))) q, total-put-in stop-rank-of (of-stop g) x (at (x .order .side) (q .waits)))
 
-pub queued-set : (g : Measure) (i : ℕ) (x o : Order) (q : Queues) → nth (at (o .side) (q .stands)) i ≡ Some x → queued g (record-set i (Standing o) q) ≡ queued g (taken (Orders (o .side)) i q) + g stands o
+pub queued-set : (g : Measure) (i : ℕ) (x o : Order) (q : Queues) → nth (at (o .side) (q .stands)) i ≡ Some x →
+    queued g (record-set i (Standing o) q) ≡ queued g (taken (Orders (o .side)) i q) + g stands o
 queued-set g i x o q e =
     let s : Side = o .side in
     let l : List Order = at s (q .stands) in

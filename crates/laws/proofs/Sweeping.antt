@@ -93,7 +93,8 @@ swept-then q t f g h a b = record {
   course = course-++ (a .course) (b .course);
 }
 
-pub one-pull : (q : Request) (c : Cause) (n : Queue) (i : ℕ) (r : Record) (f : Floor) (t : Tally) → Lies n i r (f .queues) → Calm f → Spare f → Matches t f → Swept q t f (happen (pulls c n i r) f)
+pub one-pull : (q : Request) (c : Cause) (n : Queue) (i : ℕ) (r : Record) (f : Floor) (t : Tally) → Lies n i r (f .queues) → Calm f → Spare f → Matches t f →
+    Swept q t f (happen (pulls c n i r) f)
 one-pull q c n i r f t l k s m =
     let e : Event = pulls c n i r in
     let fit : Fits e f = (k .idle, l) in

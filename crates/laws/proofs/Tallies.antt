@@ -63,7 +63,8 @@ pub total-adjust : (g : View) (h : Account → Option Account) (l : List Account
 total-adjust g h [] = refl
 total-adjust g h (a ∷ l) = go (h a) (total-adjust g h l)
   where
-    go : (m : Option Account) → total (on-account g) (adjust h l) ≡ total (λ a. of-maybe g (h a)) l → total (on-account g) (kept-if m (adjust h l)) ≡ of-maybe g m + total (λ a. of-maybe g (h a)) l
+    go : (m : Option Account) → total (on-account g) (adjust h l) ≡ total (λ a. of-maybe g (h a)) l →
+        total (on-account g) (kept-if m (adjust h l)) ≡ of-maybe g m + total (λ a. of-maybe g (h a)) l
     go None e = omega arith
     go (Some b) e = omega arith
 
@@ -91,7 +92,8 @@ zero-one false e = refl
 zero-one true e = absurd (omega arith)
 
 -- one that is not named stays, and one that is named does not
-pub not-only : (n : ℕ) (m : Option Account) (p : Place) (o : Order) → one-of n p o ≡ 0 → only (numbered n (account p (seen p o))) m (account p (seen p o)) ≡ Some (account p (seen p o))
+pub not-only : (n : ℕ) (m : Option Account) (p : Place) (o : Order) → one-of n p o ≡ 0 →
+    only (numbered n (account p (seen p o))) m (account p (seen p o)) ≡ Some (account p (seen p o))
 not-only n m p o h = cond-false (eqb (o .number) n) m (Some (account p (seen p o))) (zero-one (eqb (o .number) n) h)
 
 pub is-only : (m : Option Account) (p : Place) (o : Order) → only (numbered (o .number) (account p (seen p o))) m (account p (seen p o)) ≡ m
@@ -99,7 +101,8 @@ is-only m p o = cond-true (eqb (o .number) (o .number)) m (Some (account p (seen
 
 -- lots come off the incoming order, and off the resting one
 
-sum-held : (g : View) (lots turn : ℕ) (o : Order) → lots ≤ o .leaves → of-maybe g (take-off lots turn (account incoming (seen incoming o))) ≡ of-hand (by-row g incoming) (held lots o)
+sum-held : (g : View) (lots turn : ℕ) (o : Order) → lots ≤ o .leaves →
+    of-maybe g (take-off lots turn (account incoming (seen incoming o))) ≡ of-hand (by-row g incoming) (held lots o)
 sum-held g lots turn o h = by-number (o .leaves) lots (λ b. of-maybe g (take-off lots turn (account incoming (seen incoming o))) ≡ of-hand (by-row g incoming) (cond b None (Some (renewed (o .turn) lots o))))
     (λ e. ap (of-maybe g) (cond-true (eqb (o .leaves - lots) 0) None (Some (account incoming (less lots (seen incoming o)))) (eq-eqb (o .leaves - lots) 0 (omega arith))))
     (λ e. ap (of-maybe g) (cond-false (eqb (o .leaves - lots) 0) None (Some (account incoming (less lots (seen incoming o)))) (ne-eqb (o .leaves - lots) 0 (λ z. e (omega arith))))
@@ -109,7 +112,8 @@ sum-held g lots turn o h = by-number (o .leaves) lots (λ b. of-maybe g (take-of
     apart : (o .leaves ≡ lots → ⊥) → lots < o .leaves
     apart e = omega arith
 
-sum-fate : (g : View) (lots turn : ℕ) (r : Order) → lots ≤ r .shown → of-maybe g (take-off lots turn (account stands (seen stands r))) ≡ of-fate (by-row g stands) (fate lots r) lots turn r
+sum-fate : (g : View) (lots turn : ℕ) (r : Order) → lots ≤ r .shown →
+    of-maybe g (take-off lots turn (account stands (seen stands r))) ≡ of-fate (by-row g stands) (fate lots r) lots turn r
 sum-fate g lots turn r h =
     let x : OrderRow = less lots (row-of r) in
     let S : Fate → Type 0 = λ k. of-maybe g (take-off lots turn (account stands (seen stands r))) ≡ of-fate (by-row g stands) k lots turn r in
@@ -202,7 +206,8 @@ module _ (o r : Order) (f : Floor) (fit : Fits (trades o r) f) (s : Sane f) wher
 all-off : (turn : ℕ) (p : Place) (o : Order) → take-off (o .leaves) turn (account p (seen p o)) ≡ None
 all-off turn p o = cond-true (eqb (o .leaves - o .leaves) 0) None (Some (account p (refilled (ran-out p (less (o .leaves) (seen p o))) turn (less (o .leaves) (seen p o))))) (eq-eqb (o .leaves - o .leaves) 0 (omega arith))
 
-gone-off : (g : View) (turn : ℕ) (p : Place) (o : Order) → of-maybe g (only (numbered (o .number) (account p (seen p o))) (take-off (o .leaves) turn (account p (seen p o))) (account p (seen p o))) ≡ 0
+gone-off : (g : View) (turn : ℕ) (p : Place) (o : Order) →
+    of-maybe g (only (numbered (o .number) (account p (seen p o))) (take-off (o .leaves) turn (account p (seen p o))) (account p (seen p o))) ≡ 0
 gone-off g turn p o = ap (of-maybe g) (is-only (take-off (o .leaves) turn (account p (seen p o))) p o ∙ all-off turn p o)
 
 -- an event that takes up one order
@@ -219,13 +224,15 @@ module _ (e : Event) (f : Floor) (fit : Fits e f) (s : Sane f) (n : ℕ) (one : 
       let z : over (λ _ _. 0) q None ≡ 0 = omega (arith, total-none (q .stands .buy), total-none (q .stands .sell), total-none (q .waits .buy), total-none (q .waits .sell)) in
       omega (arith, taken-up g e f fit, over-agree q None (one-of n) g (λ _ _. 0) (λ p x k. cond-false (eqb (x .number) n) (w p x) 0 (zero-one (eqb (x .number) n) k)) (rest-other e f fit (s .counts) n one))
 
-pub match-drops : (c : Cause) (o : Order) (f : Floor) → Fits (drops c o) f → Sane f → (t : Tally) → Matches t f → Matches (note-cancel (o .number) (o .leaves) t) (happen (drops c o) f)
+pub match-drops : (c : Cause) (o : Order) (f : Floor) → Fits (drops c o) f → Sane f → (t : Tally) → Matches t f →
+    Matches (note-cancel (o .number) (o .leaves) t) (happen (drops c o) f)
 match-drops c o f fit s t m = record {
   sums = one-moved (drops c o) f fit s (o .number) (omega (arith, one-itself incoming o)) t m (take-off (o .leaves) (t .turn)) (λ g. gone-off g (t .turn) incoming o);
   turns = m .turns;
 }
 
-pub match-pulls : (c : Cause) (n : Queue) (i : ℕ) (r : Record) (f : Floor) → Fits (pulls c n i r) f → Sane f → (t : Tally) → Matches t f → Matches (note-cancel (order-of-record r .number) (order-of-record r .leaves) t) (happen (pulls c n i r) f)
+pub match-pulls : (c : Cause) (n : Queue) (i : ℕ) (r : Record) (f : Floor) → Fits (pulls c n i r) f → Sane f → (t : Tally) → Matches t f →
+    Matches (note-cancel (order-of-record r .number) (order-of-record r .leaves) t) (happen (pulls c n i r) f)
 match-pulls c n i r f fit s t m =
     let o : Order = order-of-record r in
     record {
@@ -233,7 +240,8 @@ match-pulls c n i r f fit s t m =
       turns = m .turns;
     }
 
-pub match-fires : (z : Side) (x : Stop) (f : Floor) → Fits (fires z x) f → Sane f → Roomy (fires z x) f → (t : Tally) → Matches t f → Matches (note-release (x .order .number) t) (happen (fires z x) f)
+pub match-fires : (z : Side) (x : Stop) (f : Floor) → Fits (fires z x) f → Sane f → Roomy (fires z x) f → (t : Tally) → Matches t f →
+    Matches (note-release (x .order .number) t) (happen (fires z x) f)
 match-fires z x f fit s room t m =
     let o : Order = x .order in
     let e : Event = fires z x in

@@ -33,7 +33,8 @@ with-some f t o e w = subst (λ h. With h t f) e w
 pub with-none : (f : Floor) (t : Tally) → f .hand ≡ None → With (f .hand) t f → Matches (at-ease t) f
 with-none f t e w = subst (λ h. With h t f) e w
 
-tell-next : (q : Request) (e : Event) (f : Floor) → Next e f → Roomy e f → Sane f → (t : Tally) → With (f .hand) t f → With (happen e f .hand) (noted q (lines e) t) (happen e f) × Fair-lines q (lines e) t
+tell-next : (q : Request) (e : Event) (f : Floor) → Next e f → Roomy e f → Sane f → (t : Tally) → With (f .hand) t f →
+    With (happen e f .hand) (noted q (lines e) t) (happen e f) × Fair-lines q (lines e) t
 tell-next q (drops c o) f n r s t w = (match-idle (happen (drops c o) f) (noted q (lines (drops c o)) t) refl (match-drops c o f (n .0) s t (with-some f t o (n .0) w)), (tt, tt))
 tell-next q (trades o x) f n r s t w =
     let m = with-some f t o (n .0 .in-hand) w in

@@ -59,7 +59,8 @@ coming-early (amends i o) f h g =
     early (f .clock .stamp + 0) stands o (omega (arith, is-early (f .clock .stamp) stands (h .0 .was) (omega arith), h .1 .turn))
 coming-early (recalls s i o) f h g = early (f .clock .stamp + 1) incoming o (omega (arith, h .2))
 
-pub early-happen : (e : Event) (f : Floor) → Fits e f → Roomy e f → Good (f .queues) → Single f → everywhere (late (f .clock .stamp)) f ≡ 0 → everywhere (late (happen e f .clock .stamp)) (happen e f) ≡ 0
+pub early-happen : (e : Event) (f : Floor) → Fits e f → Roomy e f → Good (f .queues) → Single f → everywhere (late (f .clock .stamp)) f ≡ 0 →
+    everywhere (late (happen e f .clock .stamp)) (happen e f) ≡ 0
 early-happen e f h room g s k =
     let n : ℕ = f .clock .stamp in
     let t = taken-up (late n) e f h in
