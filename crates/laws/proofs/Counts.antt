@@ -182,9 +182,12 @@ single-coming (amends i o) f h k n = inl (let z : one-of n stands o ≡ one-of n
 single-coming (recalls s i o) f h k n = inl (let z : one-of n incoming o ≡ one-of n stands (h .0 .was) = ap (λ m. counting n m 1) (h .0 .changes .number) in omega (arith, recalled-is s i o f h (one-of n)))
 
 -- what is not known after a line A or R of number m either was not known or has that number
-still-known : (m lots : ℕ) (l : List Line) (p : Place) (o : Order) →
-    cond {A = ℕ} (eqb (cond (eqb m (o .number)) lots (quantity-of (o .number) l)) (o .quantity)) 0 1 ≤ unknown l p o + one-of m p o
-still-known m lots l p o = by-number m (o .number) (λ b. cond {A = ℕ} (eqb (cond b lots (quantity-of (o .number) l)) (o .quantity)) 0 1 ≤ unknown l p o + one-of m p o)
+abbrev unknown-after : (m lots : ℕ) → List Line → Measure
+unknown-after m lots l p o = cond (eqb (cond (eqb m (o .number)) lots (quantity-of (o .number) l)) (o .quantity)) 0 1
+
+still-known : (m lots : ℕ) (l : List Line) (p : Place) (o : Order) → unknown-after m lots l p o ≤ unknown l p o + one-of m p o
+still-known m lots l p o =
+    by-number m (o .number) (λ b. cond {A = ℕ} (eqb (cond b lots (quantity-of (o .number) l)) (o .quantity)) 0 1 ≤ unknown l p o + one-of m p o)
     (λ e. let z : one-of m p o ≡ 1 = rw (eq-eqb (o .number) m (sym e)) refl in omega (arith, at-most (eqb lots (o .quantity))))
     (λ _. omega arith)
   where
@@ -192,14 +195,9 @@ still-known m lots l p o = by-number m (o .number) (λ b. cond {A = ℕ} (eqb (c
     at-most true = omega arith
     at-most false = omega arith
 
--- after a line A or R of number m, where the orders left alone have other numbers
-known-others : (m lots : ℕ) (l : List Line) (q : Queues) (h : Option Order) (u : Measure) → ((p : Place) (o : Order) → u p o ≤ unknown l p o + one-of m p o) →
-    over (unknown l) q h ≡ 0 → over (one-of m) q h ≡ 0 → over u q h ≡ 0
-known-others m lots l q h u le a b = omega (arith, over-le q h u (λ p o. unknown l p o + one-of m p o) le, over-plus q h (unknown l) (one-of m))
-
-known-new : (m lots : ℕ) (l : List Line) (o : Order) → o .number ≡ m → o .quantity ≡ lots →
-    cond {A = ℕ} (eqb (cond (eqb m (o .number)) lots (quantity-of (o .number) l)) (o .quantity)) 0 1 ≡ 0
-known-new m lots l o e w = rw (cond-true (eqb m (o .number)) lots (quantity-of (o .number) l) (eq-eqb m (o .number) (sym e)), eq-eqb lots (o .quantity) (sym w)) refl
+known-new : (l : List Line) (p : Place) (o : Order) → unknown-after (o .number) (o .quantity) l p o ≡ 0
+known-new l p o =
+    rw (cond-true (eqb (o .number) (o .number)) (o .quantity) (quantity-of (o .number) l) (eq-eqb (o .number) (o .number) refl), eq-eqb (o .quantity) (o .quantity) refl) refl
 
 module _ (e : Event) (f : Floor) (fit : Fits e f) (k : Counts f) where
   rest-known : resting (unknown (tape f)) e f ≡ 0
@@ -210,6 +208,13 @@ module _ (e : Event) (f : Floor) (fit : Fits e f) (k : Counts f) where
 
   rest-new : (m : ℕ) → m ≡ f .clock .stamp → resting (one-of m) e f ≡ 0
   rest-new m z = omega (arith, taken-up (one-of m) e f fit, absent f k m (omega arith))
+
+  -- the orders left alone are still known after a line A or R of a number that none of them has
+  rest-still : (m lots : ℕ) → resting (one-of m) e f ≡ 0 → resting (unknown-after m lots (tape f)) e f ≡ 0
+  rest-still m lots z =
+      let q : Queues = rest-queues e f in
+      let w : Measure = λ p o. unknown (tape f) p o + one-of m p o in
+      omega (arith, over-le q None (unknown-after m lots (tape f)) w (still-known m lots (tape f)), over-plus q None (unknown (tape f)) (one-of m), rest-known)
 
   -- the orders that an event leaves alone have other numbers than the one that it takes up
   pub rest-other : (m : ℕ) → 1 ≤ going e f (one-of m) → resting (one-of m) e f ≡ 0
@@ -231,17 +236,17 @@ fate-known l lots stamp r h e =
 known-happen : (e : Event) (f : Floor) → Fits e f → Counts f → resting (unknown (lines e ++ tape f)) e f + coming e f (unknown (lines e ++ tape f)) ≡ 0
 known-happen (enters o) f h k =
     let e : Event = enters o in
-    omega (arith, known-others (o .number) (o .quantity) (tape f) (f .queues) None (unknown (lines e ++ tape f)) (still-known (o .number) (o .quantity) (tape f)) (rest-known e f h k) (rest-new e f h k (o .number) (h .new)), known-new (o .number) (o .quantity) (tape f) o refl refl)
+    omega (arith, rest-still e f h k (o .number) (o .quantity) (rest-new e f h k (o .number) (h .new)), known-new (tape f) incoming o)
 known-happen (parks x) f h k =
     let e : Event = parks x in
     let o : Order = x .order in
-    omega (arith, known-others (o .number) (o .quantity) (tape f) (f .queues) None (unknown (lines e ++ tape f)) (still-known (o .number) (o .quantity) (tape f)) (rest-known e f h k) (rest-new e f h k (o .number) (h .arrives .new)), known-new (o .number) (o .quantity) (tape f) o refl refl)
+    omega (arith, rest-still e f h k (o .number) (o .quantity) (rest-new e f h k (o .number) (h .arrives .new)), known-new (tape f) waits o)
 known-happen (bounces c o) f h k =
     let e : Event = bounces c o in
-    omega (arith, known-others (o .number) (o .quantity) (tape f) (f .queues) None (unknown (lines e ++ tape f)) (still-known (o .number) (o .quantity) (tape f)) (rest-known e f h k) (rest-new e f h k (o .number) (h .new)))
+    omega (arith, rest-still e f h k (o .number) (o .quantity) (rest-new e f h k (o .number) (h .new)))
 known-happen (misses m lots) f h k =
     let e : Event = misses m lots in
-    omega (arith, known-others m lots (tape f) (f .queues) None (unknown (lines e ++ tape f)) (still-known m lots (tape f)) (rest-known e f h k) (rest-new e f h k m (h .1)))
+    omega (arith, rest-still e f h k m lots (rest-new e f h k m (h .1)))
 known-happen (drops c o) f h k = omega (arith, rest-known (drops c o) f h k)
 known-happen (trades o r) f h k =
     let g = gone-known (trades o r) f h k in
@@ -256,12 +261,14 @@ known-happen (amends i o) f h k =
     let e : Event = amends i o in
     let x : Order = h .0 .was in
     let one : one-of (o .number) stands x ≡ 1 = rw (h .0 .changes .number) (one-itself stands x) in
-    omega (arith, known-others (o .number) (o .quantity) (tape f) (rest-queues e f) None (unknown (lines e ++ tape f)) (still-known (o .number) (o .quantity) (tape f)) (rest-known e f h k) (rest-other e f h k (o .number) (omega (arith, amended-is i o f h (one-of (o .number))))), known-new (o .number) (o .quantity) (tape f) o refl refl)
+    let alone = rest-other e f h k (o .number) (omega (arith, amended-is i o f h (one-of (o .number)))) in
+    omega (arith, rest-still e f h k (o .number) (o .quantity) alone, known-new (tape f) stands o)
 known-happen (recalls s i o) f h k =
     let e : Event = recalls s i o in
     let x : Order = h .0 .was in
     let one : one-of (o .number) stands x ≡ 1 = rw (h .0 .changes .number) (one-itself stands x) in
-    omega (arith, known-others (o .number) (o .quantity) (tape f) (rest-queues e f) None (unknown (lines e ++ tape f)) (still-known (o .number) (o .quantity) (tape f)) (rest-known e f h k) (rest-other e f h k (o .number) (omega (arith, recalled-is s i o f h (one-of (o .number))))), known-new (o .number) (o .quantity) (tape f) o refl refl)
+    let alone = rest-other e f h k (o .number) (omega (arith, recalled-is s i o f h (one-of (o .number)))) in
+    omega (arith, rest-still e f h k (o .number) (o .quantity) alone, known-new (tape f) incoming o)
 
 -- each event leaves all accounted for
 pub counts-happen : (e : Event) (f : Floor) → Fits e f → Roomy e f → Good (f .queues) → Counts f → Counts (happen e f)
