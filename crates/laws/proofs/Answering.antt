@@ -101,10 +101,12 @@ with-eq P (Ok x) h = (h, refl)
 with-eq P (Err e) h = tt
 
 pub lines-ok : (f : Floor) → In-ok (λ _. length (tape f) + needed (f .queues) ≤ f .reel .limit) (lines-free (f .queues) (f .reel))
-lines-ok f = cond-both (ltb (free (f .reel)) (needed (f .queues))) (Err TapeFull) (Ok tt) (In-ok (λ _. length (tape f) + needed (f .queues) ≤ f .reel .limit)) (λ _. tt) (λ e. omega (arith, ltb-false (free (f .reel)) (needed (f .queues)) e))
+lines-ok f = cond-both (ltb (free (f .reel)) (needed (f .queues))) (Err TapeFull) (Ok tt) (In-ok (λ _. length (tape f) + needed (f .queues) ≤ f .reel .limit))
+    (λ _. tt) (λ e. omega (arith, ltb-false (free (f .reel)) (needed (f .queues)) e))
 
 stamps-ok : (f : Floor) → In-ok (λ _. f .clock .stamp + needed (f .queues) ≤ 1000000000) (stamps-free (f .queues) (f .clock))
-stamps-ok f = cond-both (ltb (undrawn (f .clock)) (needed (f .queues))) (Err NoStamps) (Ok tt) (In-ok (λ _. f .clock .stamp + needed (f .queues) ≤ 1000000000)) (λ _. tt) (λ e. omega (arith, ltb-false (undrawn (f .clock)) (needed (f .queues)) e))
+stamps-ok f = cond-both (ltb (undrawn (f .clock)) (needed (f .queues))) (Err NoStamps) (Ok tt) (In-ok (λ _. f .clock .stamp + needed (f .queues) ≤ 1000000000))
+    (λ _. tt) (λ e. omega (arith, ltb-false (undrawn (f .clock)) (needed (f .queues)) e))
 
 abbrev Looks : Queues → Found → Type 0
 Looks q x = look-at (x .queue) (x .at) q ≡ Some (x .«record»)
@@ -167,7 +169,8 @@ quantity-ok : (c : Change) (o : Order) → In-ok (λ _. traded o < new-quantity 
 quantity-ok c o = cond-both (leb (new-quantity c o) (traded o)) (Err QuantityTraded) (Ok tt) (In-ok (λ _. traded o < new-quantity c o)) (λ _. tt) (λ e. leb-false (new-quantity c o) (traded o) e)
 
 disclosed-ok : (c : Change) (o : Order) → In-ok (λ _. disclosed-barred (new-quantity c o) (new-disclosed c o) ≡ false) (disclosed-open c o)
-disclosed-ok c o = cond-both (disclosed-barred (new-quantity c o) (new-disclosed c o)) (Err DisclosedBarred) (Ok tt) (In-ok (λ _. disclosed-barred (new-quantity c o) (new-disclosed c o) ≡ false)) (λ _. tt) (λ e. e)
+disclosed-ok c o = cond-both (disclosed-barred (new-quantity c o) (new-disclosed c o)) (Err DisclosedBarred) (Ok tt)
+    (In-ok (λ _. disclosed-barred (new-quantity c o) (new-disclosed c o) ≡ false)) (λ _. tt) (λ e. e)
 
 new-few : (m : Option ℕ) (q : ℕ) → In-some (λ n. (1 ≤ n) × (n ≤ 1000000)) m → q ≤ 1000000 → valueOr m q ≤ 1000000
 new-few None q h k = k
@@ -190,11 +193,13 @@ Change-given form f p = Permitted (p .change) (p .order) × Supplied f × (nth (
 
 pub change-given : (form : ChangeForm) (f : Floor) → Good (f .queues) → In-ok (Change-given form f) (change-told form f)
 change-given form f g =
-    ok-then (λ (a : ChangeAsked). Within-ranges (a .change) × (read-change form ≡ Ok a)) (Change-given form f) (read-change form) _ (with-eq (λ (a : ChangeAsked). Within-ranges (a .change)) (read-change form) (change-ok form)) (λ a w.
+    ok-then (λ (a : ChangeAsked). Within-ranges (a .change) × (read-change form ≡ Ok a)) (Change-given form f) (read-change form) _
+    (with-eq (λ (a : ChangeAsked). Within-ranges (a .change)) (read-change form) (change-ok form)) (λ a w.
     ok-then _ (Change-given form f) (lines-free (f .queues) (f .reel)) _ (lines-ok f) (λ _ l.
     ok-then _ (Change-given form f) (stamps-free (f .queues) (f .clock)) _ (stamps-ok f) (λ _ s.
     ok-then (Looks (f .queues)) (Change-given form f) (known (a .firm) (a .number) (f .queues)) _ (known-ok (a .firm) (a .number) (f .queues)) (λ x k.
-    ok-then _ (Change-given form f) (client-free (a .firm) (a .change .client) (Some (a .number)) (f .queues)) _ (any-ok (client-free (a .firm) (a .change .client) (Some (a .number)) (f .queues))) (λ _ _.
+    ok-then _ (Change-given form f) (client-free (a .firm) (a .change .client) (Some (a .number)) (f .queues)) _
+    (any-ok (client-free (a .firm) (a .change .client) (Some (a .number)) (f .queues))) (λ _ _.
     ok-then (λ o. x .«record» ≡ Standing o) (Change-given form f) (standing-in (x .«record»)) _ (standing-ok (x .«record»)) (λ o e.
     ok-then _ (Change-given form f) (quantity-open (a .change) o) _ (quantity-ok (a .change) o) (λ _ u.
     ok-then _ (Change-given form f) (disclosed-open (a .change) o) _ (disclosed-ok (a .change) o) (λ _ d.

@@ -69,7 +69,8 @@ first-low s (x ∷ l) d r e = subst (λ (o : Order). Low (o .price)) (let z : x 
 fits-market : (a : Asked) (f : Floor) (m : Option Order) → first-order (other (a .side)) (f .queues) ≡ m → Proper a → Calm f →
     Fits (at-market a (f .clock .stamp) m (f .queues)) f
 fits-market a f None e p c = (c .idle, refl)
-fits-market a f (Some r) e p c = fits-judged a (order-from a (r .price) (f .clock .stamp)) f (arrives a (r .price) f p (first-low (other (a .side)) (at (other (a .side)) (f .queues .stands)) (c .sane .good .sided (other (a .side))) r e) (c .idle))
+fits-market a f (Some r) e p c = fits-judged a (order-from a (r .price) (f .clock .stamp)) f
+    (arrives a (r .price) f p (first-low (other (a .side)) (at (other (a .side)) (f .queues .stands)) (c .sane .good .sided (other (a .side))) r e) (c .idle))
 
 fits-kind : (k : Kind) (a : Asked) (f : Floor) → Kind-low k → Proper a → Calm f → Fits (arrival-as k a (f .clock .stamp) (f .queues)) f
 fits-kind (Limit price) a f l p c = fits-judged a (order-from a price (f .clock .stamp)) f (arrives a price f p l (c .idle))
@@ -133,7 +134,8 @@ module _ (a : Asked) (f : Floor) (t : Tally) (pr : Proper a) (c : Calm f) (m : M
         arith,
         total-adjust g h (account p r ∷ t .accounts),
         m .sums (λ p r. of-maybe g (h (account p r))),
-        over-agree (f .queues) (f .hand) (one-of n) (through h g) (by-row g) (λ p o z. ap (of-maybe g) (not-only n (take-off lots turn (account p (seen p o))) p o z)) (absent f (c .sane .counts) n (omega arith)),
+        over-agree (f .queues) (f .hand) (one-of n) (through h g) (by-row g) (λ p o z. ap (of-maybe g)
+            (not-only n (take-off lots turn (account p (seen p o))) p o z)) (absent f (c .sane .counts) n (omega arith)),
         taken-up (by-row g) e f fit,
         put-down (by-row g) e f fit (c .sane .good) (c .sane .counts .single),
         none (by-row g),
@@ -152,7 +154,8 @@ module _ (a : Asked) (f : Floor) (t : Tally) (pr : Proper a) (c : Calm f) (m : M
       let o : Order = order-from a price (f .clock .stamp) in
       let e : Event = bounces cause o in
       record {
-        sums = passes e (place-as (a .kind)) (newcomer a (limit-as (a .kind) (a .side) (t .accounts)) (o .number) (t .turn)) (o .number) (o .leaves) (t .turn + 1) fit (λ g. refl) (λ g. refl) refl refl (sym (whole price));
+        sums = passes e (place-as (a .kind)) (newcomer a (limit-as (a .kind) (a .side) (t .accounts)) (o .number) (t .turn)) (o .number) (o .leaves)
+            (t .turn + 1) fit (λ g. refl) (λ g. refl) refl refl (sym (whole price));
         turns = omega (arith, m .turns, stamp-is e f room);
       }
 
@@ -162,7 +165,8 @@ module _ (a : Asked) (f : Floor) (t : Tally) (pr : Proper a) (c : Calm f) (m : M
       let o : Order = order-from a price (f .clock .stamp) in
       let e : Event = enters o in
       record {
-        sums = subst (λ (p : Place). (g : View) → total (on-account g) (account p (newcomer a (limit-as (a .kind) (a .side) (t .accounts)) (o .number) (t .turn)) ∷ t .accounts) ≡ everywhere (by-row g) (happen e f)) (sym k)
+        sums = subst (λ (p : Place). (g : View) → total (on-account g) (account p
+            (newcomer a (limit-as (a .kind) (a .side) (t .accounts)) (o .number) (t .turn)) ∷ t .accounts) ≡ everywhere (by-row g) (happen e f)) (sym k)
             (subst (λ (z : Price). (g : View) → total (on-account g) (account incoming (newcomer a z (o .number) (t .turn)) ∷ t .accounts) ≡ everywhere (by-row g) (happen e f)) (sym l)
             (joins e incoming o (newcomer a price (o .number) (t .turn)) fit (λ g. refl) (λ g. refl) (seen-new a price incoming (f .clock .stamp) pr (λ _. refl) (t .turn) (m .turns))));
         turns = omega (arith, m .turns, stamp-is e f room);
@@ -179,7 +183,8 @@ module _ (a : Asked) (f : Floor) (t : Tally) (pr : Proper a) (c : Calm f) (m : M
   told-market k [] e fit room =
       let ev : Event = misses (f .clock .stamp) (a .quantity) in
       record {
-        sums = passes ev (place-as (a .kind)) (newcomer a (limit-as (a .kind) (a .side) (t .accounts)) (f .clock .stamp) (t .turn)) (f .clock .stamp) (a .quantity) (t .turn + 1) fit (λ g. refl) (λ g. refl) refl refl refl;
+        sums = passes ev (place-as (a .kind)) (newcomer a (limit-as (a .kind) (a .side) (t .accounts)) (f .clock .stamp) (t .turn)) (f .clock .stamp)
+            (a .quantity) (t .turn + 1) fit (λ g. refl) (λ g. refl) refl refl refl;
         turns = omega (arith, m .turns, stamp-is ev f room);
       }
   told-market k (r ∷ rest) e fit room =
@@ -201,7 +206,8 @@ module _ (a : Asked) (f : Floor) (t : Tally) (pr : Proper a) (c : Calm f) (m : M
           (let o : Order = order-from a limit (f .clock .stamp) in
           let ev : Event = parks (stop-from trigger o) in
           record {
-            sums = subst (λ (z : Kind). (g : View) → total (on-account g) (account (place-as z) (newcomer a (limit-as z (a .side) (t .accounts)) (o .number) (t .turn)) ∷ t .accounts) ≡ everywhere (by-row g) (happen ev f)) (sym e)
+            sums = subst (λ (z : Kind). (g : View) → total (on-account g) (account (place-as z)
+                (newcomer a (limit-as z (a .side) (t .accounts)) (o .number) (t .turn)) ∷ t .accounts) ≡ everywhere (by-row g) (happen ev f)) (sym e)
                 (joins ev waits o (newcomer a limit (o .number) (t .turn)) fit (λ g. refl) (λ g. refl) (seen-new a limit waits (f .clock .stamp) pr (λ _. refl) (t .turn) (m .turns)));
             turns = omega (arith, m .turns, stamp-is ev f room);
           })

@@ -113,7 +113,8 @@ module _ (c : Change) (i : ℕ) (o : Order) (f : Floor) (p : Permitted c o) (k :
         sums = one-moved ev f fit (k .sane) (o .number) one t m h
             (λ g. is (through (λ a. only (numbered (o .number) a) (h a) a) g)
             ∙ (ap (of-maybe g) (is-only (h (account stands (seen stands o))) stands o)
-            ∙ (ap (on-account g) (cond-false (loses-turn c o) (account incoming (changed-row c (t .turn) 0 (row-of o))) (account stands (changed-row c (o .turn) (min (o .shown) (new-leaves c o)) (row-of o))) l)
+            ∙ (ap (on-account g) (cond-false (loses-turn c o) (account incoming (changed-row c (t .turn) 0 (row-of o)))
+            (account stands (changed-row c (o .turn) (min (o .shown) (new-leaves c o)) (row-of o))) l)
             ∙ sym (ap (g stands) (amended-row c o p l)))));
         turns = omega (
           arith,
@@ -142,7 +143,8 @@ module _ (c : Change) (i : ℕ) (o : Order) (f : Floor) (p : Permitted c o) (k :
         sums = one-moved ev f fit (k .sane) (o .number) one t m h
             (λ g. is (through (λ a. only (numbered (o .number) a) (h a) a) g)
             ∙ (ap (of-maybe g) (is-only (h (account stands (seen stands o))) stands o)
-            ∙ (ap (on-account g) (cond-true (loses-turn c o) (account incoming (changed-row c (t .turn) 0 (row-of o))) (account stands (changed-row c (o .turn) (min (o .shown) (new-leaves c o)) (row-of o))) l)
+            ∙ (ap (on-account g) (cond-true (loses-turn c o) (account incoming (changed-row c (t .turn) 0 (row-of o)))
+            (account stands (changed-row c (o .turn) (min (o .shown) (new-leaves c o)) (row-of o))) l)
             ∙ (ap (λ n. g incoming (changed-row c n 0 (row-of o))) (m .turns)
             ∙ sym (ap (λ r. g incoming (as-seen incoming r)) (recalled-row (f .clock .stamp) c o p))))));
         turns = omega (

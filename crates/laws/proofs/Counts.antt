@@ -6,7 +6,6 @@ use mathlib.Core.Logic.{_⊎_, inl, inr, ⊎-elim}
 use Prim.Native.Nat.{ℕ, _+_, _-_, _<_, _≤_}
 use native.Mathlib.Omega.{arith}
 use lib.Dec.{eqb}
-use Rattle.std.specs.declared.option.Option.{Option}
 use Rattle.std.specs.declared.option.Option.the-variants.{Some, None}
 use Rattle.std.proofs.shelf.Tests.{cond-both, cond-true, eqb-true, eqb-false, eq-eqb, ne-eqb, cases-lt}
 use Rattle.orders.specs.declared.order.Order.{Order}
@@ -20,7 +19,7 @@ use Rattle.matching.specs.Next.{total}
 use Rattle.laws.specs.Tally.{Place, stands, waits, incoming}
 use Rattle.laws.specs.Accounts.{counting, quantity-of, traded-lots, cancelled-lots, open-of}
 use Rattle.laws.proofs.Queues.{Good}
-use Rattle.laws.proofs.Sums.{Measure, of-hand, over, everywhere, over-le, over-plus, one-of}
+use Rattle.laws.proofs.Sums.{Measure, of-hand, everywhere, over-le, over-plus, one-of}
 use Rattle.laws.proofs.Rows.{renewed-row, lowered-row}
 use Rattle.laws.proofs.Events.{Arrives, Changes, Fits, of-fate, going, coming, rest-queues, resting, taken-up, put-down, Single, one-itself}
 use Rattle.laws.specs.Smooth.{lines, stamps}
@@ -91,7 +90,8 @@ old-number m n lots left new was old h k = by-number m n (λ b. cond b lots old 
 
 newcomer : (o : Order) (f : Floor) (n : ℕ) → Arrives o f → Counts f →
     cond (eqb (o .number) n) (o .quantity) (quantity-of n (tape f)) ≡ quantity-of n (tape f) + open-of n o
-newcomer o f n h k = ap (λ m. cond (eqb (o .number) n) m (quantity-of n (tape f))) (sym (h .whole)) ∙ new-number (o .number) n (o .leaves) (quantity-of n (tape f)) (λ e. k .unborn n (omega (arith, h .new)))
+newcomer o f n h k = ap (λ m. cond (eqb (o .number) n) m (quantity-of n (tape f))) (sym (h .whole)) ∙ new-number (o .number) n (o .leaves)
+    (quantity-of n (tape f)) (λ e. k .unborn n (omega (arith, h .new)))
 
 known-at : (l : List Line) (p : Place) (o : Order) → unknown l p o ≡ 0 → quantity-of (o .number) l ≡ o .quantity
 known-at l p o e = by-number (quantity-of (o .number) l) (o .quantity) (λ b. cond {A = ℕ} b 0 1 ≡ 0 → quantity-of (o .number) l ≡ o .quantity) (λ z _. z) (λ _ z. absurd (omega arith)) e
@@ -108,7 +108,8 @@ module _ (e : Event) (f : Floor) (fit : Fits e f) (k : Counts f) (x : Order) (is
   was-born = born f k (x .number) (omega (arith, taken-up (one-of (x .number)) e f fit, is (one-of (x .number)), one-itself stands x))
 
   replaced : (o : Order) → Changes x o → (n : ℕ) → cond (eqb (o .number) n) (o .quantity) (quantity-of n (tape f)) + open-of n x ≡ quantity-of n (tape f) + open-of n o
-  replaced o w n = rw (w .number) (old-number (x .number) n (o .quantity) (x .leaves) (o .leaves) (x .quantity) (quantity-of n (tape f)) (λ z. subst (λ m. quantity-of m (tape f) ≡ x .quantity) z was-known) (w .account))
+  replaced o w n = rw (w .number) (old-number (x .number) n (o .quantity) (x .leaves) (o .leaves) (x .quantity) (quantity-of n (tape f))
+      (λ z. subst (λ m. quantity-of m (tape f) ≡ x .quantity) z was-known) (w .account))
 
 pub amended-is : (i : ℕ) (o : Order) (f : Floor) (h : Fits (amends i o) f) (g : Measure) → going (amends i o) f g ≡ g stands (h .0 .was)
 amended-is i o f h g = ap (of-hand (g stands)) (h .0 .there)
@@ -129,7 +130,8 @@ balance (trades o r) f h k n = omega (arith, held-open n (deal o r) o (omega ari
 balance (stays o) f h k n = omega arith
 balance (fires s x) f h k n =
     let z : renewed (f .clock .stamp) 0 (x .order) .leaves ≡ x .order .leaves - 0 = ap (λ (r : OrderRow). r .leaves) (renewed-row (f .clock .stamp) 0 (x .order) (omega arith)) in
-    let y : open-of n (renewed (f .clock .stamp) 0 (x .order)) ≡ open-of n (x .order) = ap (counting n (x .order .number)) (let u : renewed (f .clock .stamp) 0 (x .order) .leaves ≡ x .order .leaves = omega arith in u) in
+    let y : open-of n (renewed (f .clock .stamp) 0 (x .order)) ≡ open-of n (x .order) = ap (counting n (x .order .number))
+    (let u : renewed (f .clock .stamp) 0 (x .order) .leaves ≡ x .order .leaves = omega arith in u) in
     omega arith
 balance (pulls c (Orders s) i r) f h k n = omega arith
 balance (pulls c (Stops s) i r) f h k n = omega arith
@@ -179,7 +181,8 @@ single-coming (stays o) f h k n = inl (omega arith)
 single-coming (fires s x) f h k n = inl (omega arith)
 single-coming (pulls c m i r) f h k n = inl (omega arith)
 single-coming (amends i o) f h k n = inl (let z : one-of n stands o ≡ one-of n stands (h .0 .was) = ap (λ m. counting n m 1) (h .0 .changes .number) in omega (arith, amended-is i o f h (one-of n)))
-single-coming (recalls s i o) f h k n = inl (let z : one-of n incoming o ≡ one-of n stands (h .0 .was) = ap (λ m. counting n m 1) (h .0 .changes .number) in omega (arith, recalled-is s i o f h (one-of n)))
+single-coming (recalls s i o) f h k n = inl (let z : one-of n incoming o ≡ one-of n stands (h .0 .was) = ap (λ m. counting n m 1)
+    (h .0 .changes .number) in omega (arith, recalled-is s i o f h (one-of n)))
 
 -- what is not known after a line A or R of number m either was not known or has that number
 abbrev unknown-after : (m lots : ℕ) → List Line → Measure
@@ -222,7 +225,8 @@ module _ (e : Event) (f : Floor) (fit : Fits e f) (k : Counts f) where
 
 held-known : (l : List Line) (lots : ℕ) (o : Order) → lots ≤ o .leaves → unknown l incoming o ≡ 0 → of-hand (unknown l incoming) (held lots o) ≡ 0
 held-known l lots o h e = cond-both (eqb (o .leaves) lots) None (Some (renewed (o .turn) lots o)) (λ m. of-hand (unknown l incoming) m ≡ 0) (λ _. refl)
-    (λ d. let z = eqb-false (o .leaves) lots d in at-known l incoming (renewed (o .turn) lots o) (known-at l incoming o e ∙ sym (ap (λ (r : OrderRow). r .quantity) (renewed-row (o .turn) lots o (omega arith)))))
+    (λ d. let z = eqb-false (o .leaves) lots d in at-known l incoming (renewed (o .turn) lots o)
+    (known-at l incoming o e ∙ sym (ap (λ (r : OrderRow). r .quantity) (renewed-row (o .turn) lots o (omega arith)))))
 
 fate-known : (l : List Line) (lots stamp : ℕ) (r : Order) → lots ≤ r .shown → unknown l stands r ≡ 0 → of-fate (unknown l stands) (fate lots r) lots stamp r ≡ 0
 fate-known l lots stamp r h e =
@@ -255,7 +259,12 @@ known-happen (stays o) f h k = omega (arith, rest-known (stays o) f h k, gone-kn
 known-happen (fires s x) f h k =
     let o : Order = x .order in
     let w = known-at (tape f) waits o (gone-known (fires s x) f h k) in
-    omega (arith, rest-known (fires s x) f h k, at-known (tape f) incoming (renewed (f .clock .stamp) 0 o) (w ∙ sym (ap (λ (r : OrderRow). r .quantity) (renewed-row (f .clock .stamp) 0 o (omega arith)))))
+    omega (
+      arith,
+      rest-known (fires s x) f h k,
+      at-known (tape f) incoming (renewed (f .clock .stamp) 0 o)
+          (w ∙ sym (ap (λ (r : OrderRow). r .quantity) (renewed-row (f .clock .stamp) 0 o (omega arith)))),
+    )
 known-happen (pulls c m i r) f h k = omega (arith, rest-known (pulls c m i r) f h k)
 known-happen (amends i o) f h k =
     let e : Event = amends i o in

@@ -56,7 +56,8 @@ never-twice e q n k = not-twice (ltb (count (queue-of e) q) (room (queue-of e) q
 
 -- the number in hand is in no queue
 pub hand-alone : (f : Floor) (o : Order) → f .hand ≡ Some o → Single f → queued (one-of (o .number)) (f .queues) ≡ 0
-hand-alone f o h s = let z : of-hand (one-of (o .number) incoming) (f .hand) ≡ one-of (o .number) incoming o = ap (of-hand (one-of (o .number) incoming)) h in omega (arith, s (o .number), one-itself incoming o)
+hand-alone f o h s = let z : of-hand (one-of (o .number) incoming) (f .hand) ≡ one-of (o .number) incoming o = ap
+    (of-hand (one-of (o .number) incoming)) h in omega (arith, s (o .number), one-itself incoming o)
 
 -- what is next puts well
 
@@ -73,7 +74,8 @@ well-leftover o f h s =
 well-trade : (o r : Order) (f : Floor) → Trades o r f → Good (f .queues) → Single f → Put-well (trades o r) f
 well-trade o r f h g s =
     let d = rest-side o r f h g .0 in
-    subst (λ (z : Side). fate-put (fate (deal o r) r) (deal o r) (f .clock .stamp) r (taken (Orders z) 0 (f .queues))) d (go (fate (deal o r) r) (subst (λ (z : Side). nth (at z (f .queues .stands)) 0 ≡ Some r) (sym d) (h .first)))
+    subst (λ (z : Side). fate-put (fate (deal o r) r) (deal o r) (f .clock .stamp) r (taken (Orders z) 0 (f .queues))) d
+    (go (fate (deal o r) r) (subst (λ (z : Side). nth (at z (f .queues .stands)) 0 ≡ Some r) (sym d) (h .first)))
   where
     go : (k : Fate) → nth (at (r .side) (f .queues .stands)) 0 ≡ Some r → fate-put k (deal o r) (f .clock .stamp) r (taken (Orders (r .side)) 0 (f .queues))
     go gone e = tt
@@ -120,10 +122,14 @@ bounds-kept (parks x) f = tt
 bounds-kept (bounces c o) f = tt
 bounds-kept (misses n k) f = tt
 bounds-kept (drops c o) f = tt
-bounds-kept (trades o r) f =
-    ((λ h. fits-from (with-lots (o .turn) (o .leaves - deal o r) (showing (o .disclosed) (o .leaves - deal o r)) o) (renewed-fits (o .turn) (deal o r) o h)), fate-within (deal o r) (f .clock .stamp) r (omega arith))
+bounds-kept (trades o r) f = (
+  (λ h. fits-from (with-lots (o .turn) (o .leaves - deal o r) (showing (o .disclosed) (o .leaves - deal o r)) o)
+      (renewed-fits (o .turn) (deal o r) o h)),
+  fate-within (deal o r) (f .clock .stamp) r (omega arith),
+)
 bounds-kept (stays o) f = tt
-bounds-kept (fires s x) f = fits-from (with-lots (f .clock .stamp) (x .order .leaves - 0) (showing (x .order .disclosed) (x .order .leaves - 0)) (x .order)) (renewed-fits (f .clock .stamp) 0 (x .order) (omega arith))
+bounds-kept (fires s x) f = fits-from (with-lots (f .clock .stamp) (x .order .leaves - 0) (showing (x .order .disclosed) (x .order .leaves - 0)) (x .order))
+    (renewed-fits (f .clock .stamp) 0 (x .order) (omega arith))
 bounds-kept (pulls c n i r) f = tt
 bounds-kept (amends i o) f = tt
 bounds-kept (recalls s i o) f = tt

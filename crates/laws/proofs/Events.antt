@@ -255,16 +255,19 @@ put-down g (misses n m) f h k s = omega arith
 put-down g (drops c o) f h k s = omega arith
 put-down g (trades o r) f h k s =
     let m : Fate = fate (deal o r) r in
-    let a : queued g (met m (other (o .side)) (deal o r) (f .clock .stamp) r (f .queues)) ≡ queued g (after-fate m (deal o r) (f .clock .stamp) r (f .queues)) = ap (queued g) (met-trade o r f h k s) in
+    let a : queued g (met m (other (o .side)) (deal o r) (f .clock .stamp) r (f .queues)) ≡ queued g
+    (after-fate m (deal o r) (f .clock .stamp) r (f .queues)) = ap (queued g) (met-trade o r f h k s) in
     let b = queued-fate g m (deal o r) (f .clock .stamp) r (f .queues) (own-first o r f h k) in
-    let c : queued g (taken (Orders (r .side)) 0 (f .queues)) ≡ queued g (taken (Orders (other (o .side))) 0 (f .queues)) = ap (λ (z : Side). queued g (taken (Orders z) 0 (f .queues))) (rest-side o r f h k .0) in
+    let c : queued g (taken (Orders (r .side)) 0 (f .queues)) ≡ queued g (taken (Orders (other (o .side))) 0 (f .queues)) = ap
+    (λ (z : Side). queued g (taken (Orders z) 0 (f .queues))) (rest-side o r f h k .0) in
     omega arith
 put-down g (stays o) f h k s = omega (arith, queued-put g o (f .queues))
 put-down g (fires z x) f h k s = omega arith
 put-down g (pulls c n i r) f h k s = let m : of-hand (g incoming) (f .hand) ≡ 0 = ap (of-hand (g incoming)) (h .0) in omega arith
 put-down g (amends i o) f h k s =
     let m : of-hand (g incoming) (f .hand) ≡ 0 = ap (of-hand (g incoming)) (h .0 .idle) in
-    let a : queued g (rewritten i (Standing o) (f .queues)) ≡ queued g (record-set i (Standing o) (f .queues)) = ap (queued g) (rewrites i (h .0 .was) o (f .queues) (h .0 .there) (sym (same-order-rank (h .0 .was) o (h .1)))) in
+    let a : queued g (rewritten i (Standing o) (f .queues)) ≡ queued g (record-set i (Standing o) (f .queues)) = ap (queued g)
+    (rewrites i (h .0 .was) o (f .queues) (h .0 .there) (sym (same-order-rank (h .0 .was) o (h .1)))) in
     omega (arith, queued-set g i (h .0 .was) o (f .queues) (h .0 .there))
 put-down g (recalls z i o) f h k s = omega arith
 
@@ -278,7 +281,8 @@ good-fate again lots stamp r q e g =
     let l : List Order = removed (at s (q .stands)) 0 in
     good-put (renewed stamp lots r) (taken (Orders s) 0 q)
     (omega (arith, ap (λ l. suc (length l)) (at-own s l (q .stands)), length-taken (at s (q .stands)) 0 r e, g .bounded (Orders s)))
-    (all-nth (Sided s) (at s (q .stands)) 0 r e (g .sided s) .1) (clear-own s l (q .stands) (renewed stamp lots r) (same-clear s (q .stands) r (renewed stamp lots r) refl (clear-nth s 0 r q e g))) (good-cut s 0 r q e g)
+    (all-nth (Sided s) (at s (q .stands)) 0 r e (g .sided s) .1) (clear-own s l (q .stands) (renewed stamp lots r)
+    (same-clear s (q .stands) r (renewed stamp lots r) refl (clear-nth s 0 r q e g))) (good-cut s 0 r q e g)
 
 good-pull : (n : Queue) (i : ℕ) (r : Record) (q : Queues) → Lies n i r q → Good q → Good (taken n i q)
 good-pull (Orders s) i r q h g = good-cut s i (h .0) q (h .2) g
@@ -306,7 +310,8 @@ good-happen (amends i o) f h g s l =
 good-happen (recalls z i o) f h g s l = good-cut z i (h .0 .was) (f .queues) (h .0 .there) g
 
 held-ready : (lots : ℕ) (o : Order) → lots ≤ o .leaves → Low (o .price) → Ready (held lots o)
-held-ready lots o n h = cond-both (eqb (o .leaves) lots) None (Some (renewed (o .turn) lots o)) Ready (λ _. tt) (λ e. let z = eqb-false (o .leaves) lots e in (h, renewed-shows (o .turn) lots o (omega arith)))
+held-ready lots o n h = cond-both (eqb (o .leaves) lots) None (Some (renewed (o .turn) lots o)) Ready (λ _. tt)
+    (λ e. let z = eqb-false (o .leaves) lots e in (h, renewed-shows (o .turn) lots o (omega arith)))
 
 pub ready-happen : (e : Event) (f : Floor) → Fits e f → Good (f .queues) → Ready (f .hand) → Ready (happen e f .hand)
 ready-happen (enters o) f h g l = (h .low, h .shows)

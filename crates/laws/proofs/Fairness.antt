@@ -60,7 +60,8 @@ all-behind Buy o r b e l w d c = go (b .buy) d c
     go : (k : List Order) → All (Sided Buy) k → All (λ (x : Order). level (x .price) < level (r .price)) k → All (λ (x : Order). before (rank-of x) (rank-of o) ≡ false) k
     go [] d h = tt
     go (x ∷ k) d h = (
-      later-key (rank-of x) (rank-of o) (subst (λ (z : Side). order-key (o .side) (o .price) < order-key z (x .price)) (sym (d .0 .0)) (subst (λ (z : Side). order-key z (o .price) < order-key Buy (x .price)) (sym e)
+      later-key (rank-of x) (rank-of o) (subst (λ (z : Side). order-key (o .side) (o .price) < order-key z (x .price)) (sym (d .0 .0))
+          (subst (λ (z : Side). order-key z (o .price) < order-key Buy (x .price)) (sym e)
           (behind-key Buy (x .price) (o .price) (r .price) l w (λ _. h .0) (λ z. absurd (apart z))))),
       go k (d .1) (h .1),
     )
@@ -73,7 +74,8 @@ all-behind Sell o r b e l w d c = go (b .sell) d c
         All (λ (x : Order). before (rank-of x) (rank-of o) ≡ false) k
     go [] d h = tt
     go (x ∷ k) d h = (
-      later-key (rank-of x) (rank-of o) (subst (λ (z : Side). order-key (o .side) (o .price) < order-key z (x .price)) (sym (d .0 .0)) (subst (λ (z : Side). order-key z (o .price) < order-key Sell (x .price)) (sym e)
+      later-key (rank-of x) (rank-of o) (subst (λ (z : Side). order-key (o .side) (o .price) < order-key z (x .price)) (sym (d .0 .0))
+          (subst (λ (z : Side). order-key z (o .price) < order-key Sell (x .price)) (sym e)
           (behind-key Sell (x .price) (o .price) (r .price) l w (λ z. absurd (apart z)) (λ _. h .0)))),
       go k (d .1) (h .1),
     )
@@ -100,9 +102,11 @@ fair-trades o r f fit s t m =
     let w : View = λ _ x. outside p x + ahead-in t x in
     let d = rest-side o r f fit (s .good) in
     let low : Low (o .price) = subst Ready (fit .in-hand) (s .ready) .0 in
-    let a : ahead-in t (row-of o) ≡ 0 = m .sums (λ q x. cond (stands-on z q x && before (order-rank x) (order-rank (row-of o))) 1 0) ∙ none-stands z (λ x. before (order-rank x) (order-rank (row-of o))) f (s .good)
+    let a : ahead-in t (row-of o) ≡ 0 = m .sums (λ q x. cond (stands-on z q x && before (order-rank x) (order-rank (row-of o))) 1 0) ∙ none-stands z
+    (λ x. before (order-rank x) (order-rank (row-of o))) f (s .good)
     (all-behind z o r (f .queues .stands) refl low (fit .meets) (s .good .sided z) (clear-nth (other z) 0 r (f .queues) (fit .first) (s .good))) in
-    let c : ahead-in t (row-of r) ≡ 0 = m .sums (λ q x. cond (stands-on (r .side) q x && before (order-rank x) (order-rank (row-of r))) 1 0) ∙ none-stands (r .side) (λ x. before (order-rank x) (order-rank (row-of r))) f (s .good)
+    let c : ahead-in t (row-of r) ≡ 0 = m .sums (λ q x. cond (stands-on (r .side) q x && before (order-rank x) (order-rank (row-of r))) 1 0) ∙ none-stands
+    (r .side) (λ x. before (order-rank x) (order-rank (row-of r))) f (s .good)
     (subst (λ (y : Side). All (λ (x : Order). before (rank-of x) (rank-of r) ≡ false) (at y (f .queues .stands))) (sym (d .0)) (first-foremost (other z) r (f .queues) (fit .first) (s .good))) in
     let b : outside p (row-of o) ≡ 0 = cond-true {A = ℕ} (within z (o .price) p) 0 1 (fit .meets) in
     let k : outside p (row-of r) ≡ 0 = cond-true {A = ℕ} (within (r .side) p p) 0 1 (within-itself (r .side) p) in
@@ -112,7 +116,8 @@ fair-trades o r f fit s t m =
     record {
       incoming-held = omega (arith, m .sums (λ _ x. cond (eqb (x .number) (o .number)) 1 0), taken-up (one-of (o .number)) e f fit, one-itself incoming o, s .counts .single (o .number));
       resting-held = omega (arith, m .sums (λ _ x. cond (eqb (x .number) (r .number)) 1 0), taken-up (one-of (r .number)) e f fit, one-itself stands r, s .counts .single (r .number));
-      in-turn = all-weaker (λ a. cond (named (a .order)) (w (a .place) (a .order)) 0 ≡ 0) _ (λ a k i. fair-one a (cond-named (named (a .order)) (w (a .place) (a .order)) (is-named a i) k)) (t .accounts)
+      in-turn = all-weaker (λ a. cond (named (a .order)) (w (a .place) (a .order)) 0 ≡ 0) _
+          (λ a k i. fair-one a (cond-named (named (a .order)) (w (a .place) (a .order)) (is-named a i) k)) (t .accounts)
           (total-zero (λ a. cond (named (a .order)) (w (a .place) (a .order)) 0) (t .accounts) zero-sum);
     }
   where
@@ -145,5 +150,6 @@ fair-trades o r f fit s t m =
           all-weaker (λ b. cond {A = ℕ} (stands-on (a .order .side) (b .place) (b .order) && before (order-rank (b .order)) (order-rank (a .order))) 1 0 ≡ 0) _
               (λ b z i. and-false (stands-on (a .order .side) (b .place) (b .order)) (before (order-rank (b .order)) (order-rank (a .order)))
               (zero-one (stands-on (a .order .side) (b .place) (b .order) && before (order-rank (b .order)) (order-rank (a .order))) z) i)
-              (t .accounts) (total-zero (λ b. cond (stands-on (a .order .side) (b .place) (b .order) && before (order-rank (b .order)) (order-rank (a .order))) 1 0) (t .accounts) (let z : n ≡ 0 = omega arith in z)),
+              (t .accounts) (total-zero (λ b. cond (stands-on (a .order .side) (b .place) (b .order) && before (order-rank (b .order))
+              (order-rank (a .order))) 1 0) (t .accounts) (let z : n ≡ 0 = omega arith in z)),
         )

@@ -131,7 +131,8 @@ queue-worn o r rest f h g s e k =
         left = at-own (r .side) (removed (at (r .side) (f .queues .stands)) 0) (f .queues .stands) ∙ ap (λ l. removed l 0) e
 
         cases : (b : Bool) → eqb (r .leaves) (r .shown) ≡ b →
-            at (r .side) (after-fate (cond b gone (cond (eqb (r .shown) (r .shown)) again kept)) (r .shown) (f .clock .stamp) r (f .queues) .stands) ≡ cond b rest (put-in rank-of (renewed (f .clock .stamp) (r .shown) r) rest)
+            at (r .side) (after-fate (cond b gone (cond (eqb (r .shown) (r .shown)) again kept)) (r .shown) (f .clock .stamp) r
+            (f .queues) .stands) ≡ cond b rest (put-in rank-of (renewed (f .clock .stamp) (r .shown) r) rest)
         cases true _ = left
         cases false _ =
             let y : Order = renewed (f .clock .stamp) (r .shown) r in
@@ -159,7 +160,8 @@ settle-trades (suc k) f o s h w m = go (at (other (o .side)) (f .queues .stands)
     stuck R e = omega (arith, leads-more (traded-lots (o .number)) (settle-leads (suc k) f s h))
 
     go : (l : List Order) → at (other (o .side)) (f .queues .stands) ≡ l →
-        ((f : Floor) (o : Order) → Sane f → Enough f → f .hand ≡ Some o → weight f ≤ k → min (o .leaves) (reach o (at (other (o .side)) (f .queues .stands))) + traded-on (o .number) f ≤ traded-on (o .number) (settle k f)) →
+        ((f : Floor) (o : Order) → Sane f → Enough f → f .hand ≡ Some o → weight f ≤ k → min (o .leaves)
+        (reach o (at (other (o .side)) (f .queues .stands))) + traded-on (o .number) f ≤ traded-on (o .number) (settle k f)) →
         min (o .leaves) (reach o l) + traded-on (o .number) f ≤ traded-on (o .number) (settle (suc k) f)
     go [] e ih = stuck 0 refl
     go (r ∷ rest) e ih = by-limit (within (o .side) (o .price) (r .price)) refl
@@ -181,7 +183,8 @@ settle-trades (suc k) f o s h w m = go (at (other (o .side)) (f .queues .stands)
             let fit : Trades o r f = record { in-hand = w; first = ap (λ l. nth l 0) e; meets = a } in
             let nx : next f ≡ Some ev = ap (λ h. next-with h f) w
             ∙ (ap (λ l. Some (meets o (order-in (mapped Standing (nth l 0))) (f .queues))) e
-            ∙ ap Some (cond-true (within (o .side) (o .price) (r .price)) (cond (same-investor o r) (drops OwnInvestor o) (trades o r)) (leftover o (f .queues)) a ∙ cond-false (same-investor o r) (drops OwnInvestor o) (trades o r) b)) in
+            ∙ ap Some (cond-true (within (o .side) (o .price) (r .price)) (cond (same-investor o r) (drops OwnInvestor o) (trades o r))
+            (leftover o (f .queues)) a ∙ cond-false (same-investor o r) (drops OwnInvestor o) (trades o r) b)) in
             let li = lighter ev f nx in
             let room = roomy-next ev f tt li h in
             let sane = sane-happen ev f fit room s in

@@ -64,7 +64,8 @@ pub record Open-terms (a : Asked) : Type 0 where
 
 terms-ok : (a : Asked) → In-ok Open-terms (if-allowed a)
 terms-ok a = cond-both (barred a) (Err Barred) (Ok a) (In-ok Open-terms) (λ _. tt)
-    (λ e. let b = or-parts (is-stop (a .kind) && (fleeting (a .validity) || ltb 0 (a .minimum))) ((fleeting (a .validity) && ltb 0 (a .disclosed)) || (ltb (a .quantity) (a .minimum) || disclosed-barred (a .quantity) (a .disclosed))) e in
+    (λ e. let b = or-parts (is-stop (a .kind) && (fleeting (a .validity) || ltb 0 (a .minimum)))
+    ((fleeting (a .validity) && ltb 0 (a .disclosed)) || (ltb (a .quantity) (a .minimum) || disclosed-barred (a .quantity) (a .disclosed))) e in
     let c = or-parts (fleeting (a .validity) && ltb 0 (a .disclosed)) (ltb (a .quantity) (a .minimum) || disclosed-barred (a .quantity) (a .disclosed)) (b .1) in
     let d = or-parts (ltb (a .quantity) (a .minimum)) (disclosed-barred (a .quantity) (a .disclosed)) (c .1) in
     record { stop = b .0; least = ltb-false (a .quantity) (a .minimum) (d .0) })
@@ -122,7 +123,8 @@ module _ (a : Asked) (f : Floor) (p : Proper a) (u : Open-terms a) (s : Supplied
   filled-misses : Ends-filled (misses (f .clock .stamp) (a .quantity))
   filled-misses b fit =
       let n : ℕ = f .clock .stamp in
-      nothing (traded-on n (settled (happen (misses n (a .quantity)) f))) (omega (arith, upper (misses n (a .quantity)) b fit, at-number (a .quantity) 0, at-number (a .quantity) (quantity-of n (tape f))))
+      nothing (traded-on n (settled (happen (misses n (a .quantity)) f))) (omega
+      (arith, upper (misses n (a .quantity)) b fit, at-number (a .quantity) 0, at-number (a .quantity) (quantity-of n (tape f))))
 
   filled-enters : (price : Price) → short a (order-from a price (f .clock .stamp)) (f .queues) ≡ false → Ends-filled (enters (order-from a price (f .clock .stamp)))
   filled-enters price e b fit =
@@ -138,8 +140,11 @@ module _ (a : Asked) (f : Floor) (p : Proper a) (u : Open-terms a) (s : Supplied
       let top = upper ev b fit in
       let q = at-number (o .quantity) (quantity-of n (tape f)) in
       let w = whole price in
-      let lots : ℕ = traded-on n (settled (happen ev f)) in
-      (λ all. inr (whole-of (all-or-none (a .validity)) all (k .1) (λ r. (let z : a .quantity ≤ R = r in let y : lots ≡ a .quantity = omega (arith, none-yet) in y))), inr (let z : a .minimum ≤ lots = omega (arith, u .least) in z))
+      let lots : ℕ = traded-on n (settled (happen ev f)) in (
+        λ all. inr (whole-of (all-or-none (a .validity)) all (k .1) (λ r. (let z : a .quantity ≤ R = r in let y : lots ≡ a .quantity = omega
+            (arith, none-yet) in y))),
+        inr (let z : a .minimum ≤ lots = omega (arith, u .least) in z),
+      )
     where
       whole-of : {A : Type 0} {R Q : ℕ} (v : Bool) → v ≡ true → (v && ltb R Q) ≡ false → (Q ≤ R → A) → A
       whole-of {A} {R} {Q} true e k next = next (ltb-false R Q k)

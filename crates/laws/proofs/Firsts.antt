@@ -41,15 +41,18 @@ none-in-queue : (z s : Side) (q : OrderRow → Bool) (l : List Order) → All (S
     total (λ (x : Order). cond (same-side (x .side) z && q (row-of x)) 1 0) l ≡ 0
 none-in-queue z s q [] d h = refl
 none-in-queue z s q (x ∷ l) d h =
-    let a : cond {A = ℕ} (same-side (x .side) z && q (row-of x)) 1 0 ≡ 0 = subst (λ (u : Side). cond {A = ℕ} (same-side u z && q (row-of x)) 1 0 ≡ 0) (sym (d .0 .0)) (one-side z s (q (row-of x)) (λ e. h e .0)) in
+    let a : cond {A = ℕ} (same-side (x .side) z && q (row-of x)) 1 0 ≡ 0 = subst (λ (u : Side). cond {A = ℕ} (same-side u z && q (row-of x)) 1 0 ≡ 0)
+    (sym (d .0 .0)) (one-side z s (q (row-of x)) (λ e. h e .0)) in
     omega (arith, none-in-queue z s q l (d .1) (λ e. h e .1))
 
 pub none-stands : (z : Side) (q : OrderRow → Bool) (f : Floor) → Good (f .queues) → All (λ x. q (row-of x) ≡ false) (at z (f .queues .stands)) →
     everywhere (by-row (λ p r. cond (stands-on z p r && q r) 1 0)) f ≡ 0
 none-stands z q f g h =
     let k : View = λ p r. cond (stands-on z p r && q r) 1 0 in
-    let a : total (by-row k stands) (f .queues .stands .buy) ≡ 0 = none-in-queue z Buy q (f .queues .stands .buy) (g .sided Buy) (λ e. subst (λ (s : Side). All (λ x. q (row-of x) ≡ false) (at s (f .queues .stands))) (sym e) h) in
-    let b : total (by-row k stands) (f .queues .stands .sell) ≡ 0 = none-in-queue z Sell q (f .queues .stands .sell) (g .sided Sell) (λ e. subst (λ (s : Side). All (λ x. q (row-of x) ≡ false) (at s (f .queues .stands))) (sym e) h) in
+    let a : total (by-row k stands) (f .queues .stands .buy) ≡ 0 = none-in-queue z Buy q (f .queues .stands .buy) (g .sided Buy)
+    (λ e. subst (λ (s : Side). All (λ x. q (row-of x) ≡ false) (at s (f .queues .stands))) (sym e) h) in
+    let b : total (by-row k stands) (f .queues .stands .sell) ≡ 0 = none-in-queue z Sell q (f .queues .stands .sell) (g .sided Sell)
+    (λ e. subst (λ (s : Side). All (λ x. q (row-of x) ≡ false) (at s (f .queues .stands))) (sym e) h) in
     let c : total (of-stop (by-row k)) (f .queues .waits .buy) ≡ 0 = total-none (f .queues .waits .buy) in
     let d : total (of-stop (by-row k)) (f .queues .waits .sell) ≡ 0 = total-none (f .queues .waits .sell) in
     let e : of-hand (by-row k incoming) (f .hand) ≡ 0 = at-hand (f .hand) in
@@ -75,7 +78,8 @@ count-if s q l = total (λ a. cond (stands-on s (a .place) (a .order) && q (a .o
 
 first-none : (s : Side) (l : List Account) → count-if s (λ _. true) l ≡ 0 → first-price s l ≡ None
 first-none s [] e = refl
-first-none s (a ∷ l) e = cond-false (stands-on s (a .place) (a .order)) (Some (better-of s (a .order .price) (first-price s l))) (first-price s l) (and-true (stands-on s (a .place) (a .order)) (zero-one (stands-on s (a .place) (a .order) && true) (omega arith))) ∙ first-none s l (omega arith)
+first-none s (a ∷ l) e = cond-false (stands-on s (a .place) (a .order)) (Some (better-of s (a .order .price) (first-price s l))) (first-price s l)
+    (and-true (stands-on s (a .place) (a .order)) (zero-one (stands-on s (a .place) (a .order) && true) (omega arith))) ∙ first-none s l (omega arith)
   where
     and-true : (b : Bool) → (b && true) ≡ false → b ≡ false
     and-true false e = refl
@@ -107,7 +111,8 @@ better-apart Sell a p h k = grind (arith, tells)
 
 first-is : (s : Side) (p : Price) (l : List Account) → count-if s (λ q. better s q p) l ≡ 0 → 1 ≤ count-if s (λ q. same-price q p) l → first-price s l ≡ Some p
 first-is s p [] e h = absurd (omega arith)
-first-is s p (a ∷ l) e h = go (stands-on s (a .place) (a .order)) refl (zero-one (stands-on s (a .place) (a .order) && better s (a .order .price) p) (omega arith)) (first-is s p l (omega arith)) (first-bound s p l (omega arith)) h
+first-is s p (a ∷ l) e h = go (stands-on s (a .place) (a .order)) refl (zero-one (stands-on s (a .place) (a .order) && better s (a .order .price) p)
+    (omega arith)) (first-is s p l (omega arith)) (first-bound s p l (omega arith)) h
   where
     pr : Price
     pr = a .order .price
@@ -120,12 +125,14 @@ first-is s p (a ∷ l) e h = go (stands-on s (a .place) (a .order)) refl (zero-o
         (1 ≤ count-if s (λ q. same-price q p) l → first-price s l ≡ Some p) → At-most s p (first-price s l) →
         1 ≤ cond (stands-on s (a .place) (a .order) && same-price (a .order .price) p) 1 0 + count-if s (λ q. same-price q p) l →
         cond b (Some (better-of s (a .order .price) (first-price s l))) (first-price s l) ≡ Some p
-    go false k z ih bound n = ih (let n′ : 1 ≤ 0 + count-if s (λ q. same-price q p) l = subst (λ b. 1 ≤ cond (b && same-price (a .order .price) p) 1 0 + count-if s (λ q. same-price q p) l) k n in omega arith)
+    go false k z ih bound n = ih (let n′ : 1 ≤ 0 + count-if s (λ q. same-price q p) l = subst
+        (λ b. 1 ≤ cond (b && same-price (a .order .price) p) 1 0 + count-if s (λ q. same-price q p) l) k n in omega arith)
     go true k z ih bound n = ⊎-elim
         (λ (q : level (a .order .price) ≡ level p). ap (λ u. Some (better-of s u (first-price s l))) (price-same (a .order .price) p q) ∙ ap Some (first (first-price s l) bound))
         (λ (q : level (a .order .price) ≡ level p → ⊥).
         let i = ih (let u : cond {A = ℕ} (same-price (a .order .price) p) 1 0 ≡ 0 = cond-false (same-price (a .order .price) p) 1 0 (ne-eqb (level (a .order .price)) (level p) q) in
-        let n′ : 1 ≤ cond (same-price (a .order .price) p) 1 0 + count-if s (λ q. same-price q p) l = subst (λ b. 1 ≤ cond (b && same-price (a .order .price) p) 1 0 + count-if s (λ q. same-price q p) l) k n in omega arith) in
+        let n′ : 1 ≤ cond (same-price (a .order .price) p) 1 0 + count-if s (λ q. same-price q p) l = subst
+        (λ b. 1 ≤ cond (b && same-price (a .order .price) p) 1 0 + count-if s (λ q. same-price q p) l) k n in omega arith) in
         ap (λ m. Some (better-of s (a .order .price) m)) i ∙ ap Some (cond-true (better s p (a .order .price)) p (a .order .price) (better-apart s (a .order .price) p q z)))
         (cases-eq (level (a .order .price)) (level p))
 

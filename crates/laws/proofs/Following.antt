@@ -47,7 +47,13 @@ pub record Sane (f : Floor) : Type 0 where
   pub early : everywhere (late (f .clock .stamp)) f ≡ 0
 
 pub sane-happen : (e : Event) (f : Floor) → Fits e f → Roomy e f → Sane f → Sane (happen e f)
-sane-happen e f h r s = record { good = good-happen e f h (s .good) (s .counts .single) (s .ready); counts = counts-happen e f h r (s .good) (s .counts); ready = ready-happen e f h (s .good) (s .ready); early = early-happen e f h r (s .good) (s .counts .single) (s .early) }
+sane-happen e f h r s = record {
+  good = good-happen e f h (s .good) (s .counts .single) (s .ready);
+  counts = counts-happen e f h r (s .good)
+      (s .counts);
+  ready = ready-happen e f h (s .good) (s .ready);
+  early = early-happen e f h r (s .good) (s .counts .single) (s .early);
+}
 
 -- the events that follow by themselves
 abbrev pub Follows : Event → Type 0
@@ -116,7 +122,8 @@ next-meets o (r ∷ rest) f h e g =
     let s : Side = other (o .side) in
     cond-both (within (o .side) (o .price) (r .price)) (cond (same-investor o r) (drops OwnInvestor o) (trades o r)) (leftover o (f .queues)) (λ e. Next e f)
     (λ w. cond-both (same-investor o r) (drops OwnInvestor o) (trades o r) (λ e. Next e f) (λ _. (h, tt)) (λ _. (record { in-hand = h; first = ap (λ l. nth l 0) e; meets = w }, tt)))
-    (λ w. next-leftover o f h (subst (Beyond (o .side) (o .price)) (sym e) (beyond-first (o .side) (o .price) r rest (subst (Sorted rank-of) e (g .sorted s)) (subst (All (Sided s)) e (g .sided s)) w)))
+    (λ w. next-leftover o f h (subst (Beyond (o .side) (o .price)) (sym e) (beyond-first (o .side) (o .price) r rest (subst (Sorted rank-of) e (g .sorted s))
+    (subst (All (Sided s)) e (g .sided s)) w)))
 
 -- a ripe first stop is the first of its queue
 ripe-first : (s : Side) (last : Option Price) (l : List Stop) (x : Stop) → if-ripe s last (stop-in (mapped Waiting (nth l 0))) ≡ Some x → nth l 0 ≡ Some x
@@ -132,7 +139,8 @@ next-sooner : (f : Floor) (a b : Option Stop) → f .hand ≡ None → ((x : Sto
 next-sooner f None None h p q = tt
 next-sooner f (Some x) None h p q = ((h, p x refl), tt)
 next-sooner f None (Some y) h p q = ((h, q y refl), tt)
-next-sooner f (Some x) (Some y) h p q = cond-both (ltb (y .order .turn) (x .order .turn)) (Some (Sell, y)) (Some (Buy, x)) (λ m. Next? (firing m) f) (λ _. ((h, q y refl), tt)) (λ _. ((h, p x refl), tt))
+next-sooner f (Some x) (Some y) h p q = cond-both (ltb (y .order .turn) (x .order .turn)) (Some (Sell, y)) (Some (Buy, x)) (λ m. Next? (firing m) f)
+    (λ _. ((h, q y refl), tt)) (λ _. ((h, p x refl), tt))
 
 pub fits-next : (f : Floor) → Good (f .queues) → Next? (next f) f
 fits-next f g = go (f .hand) refl
@@ -206,7 +214,8 @@ unripe-behind : (s : Side) (last : Option Price) (x y : Stop) → Stop-sided s x
 unripe-behind s None x y dx dy b e = e
 unripe-behind s (Some p) x y dx dy b e =
     no-riper s p (x .trigger) (y .trigger) (x .order .turn) (x .order .number) (y .order .turn) (y .order .number) (dx .2) (dy .2) e
-    (subst (λ z. before (record { key = stop-key z (y .trigger); turn = y .order .turn; number = y .order .number }) (record { key = stop-key s (x .trigger); turn = x .order .turn; number = x .order .number }) ≡ false) (dy .0)
+    (subst (λ z. before (record { key = stop-key z (y .trigger); turn = y .order .turn; number = y .order .number })
+    (record { key = stop-key s (x .trigger); turn = x .order .turn; number = x .order .number }) ≡ false) (dy .0)
     (subst (λ z. before (stop-rank-of y) (record { key = stop-key z (x .trigger); turn = x .order .turn; number = x .order .number }) ≡ false) (dx .0) b))
 
 unripe-list : (s : Side) (last : Option Price) (l : List Stop) → Sorted stop-rank-of l → All (Stop-sided s) l →

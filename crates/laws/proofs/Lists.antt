@@ -123,8 +123,11 @@ all-rewritten P (z ∷ l) (suc i) y p h = (h .0, all-rewritten P l i y p (h .1))
 pub sorted-set : {X : Type 0} (f : X → Rank) (l : List X) (i : ℕ) (x y : X) → nth l i ≡ Some x → f y ≡ f x → Sorted f l → Sorted f (set l i y)
 sorted-set f [] i x y e k h = h
 sorted-set f (z ∷ l) zero x y e k h = let w : f z ≡ f y = ap f (let u : z ≡ x = cc in u) ∙ sym k in (subst (λ r. All (λ y. before (f y) r ≡ false) l) w (h .0), h .1)
-sorted-set f (z ∷ l) (suc i) x y e k h =
-    (all-rewritten (λ v. before (f v) (f z) ≡ false) l i y (subst (λ r. before r (f z) ≡ false) (sym k) (all-nth (λ v. before (f v) (f z) ≡ false) l i x e (h .0))) (h .0), sorted-set f l i x y e k (h .1))
+sorted-set f (z ∷ l) (suc i) x y e k h = (
+  all-rewritten (λ v. before (f v) (f z) ≡ false) l i y (subst (λ r. before r (f z) ≡ false) (sym k)
+      (all-nth (λ v. before (f v) (f z) ≡ false) l i x e (h .0))) (h .0),
+  sorted-set f l i x y e k (h .1),
+)
 
 -- a number that nobody has is not found
 

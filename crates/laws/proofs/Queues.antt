@@ -117,7 +117,8 @@ good-waits s l q g n o d = record {
 pub good-cut : (s : Side) (i : ℕ) (o : Order) (q : Queues) → nth (at s (q .stands)) i ≡ Some o → Good q → Good (taken (Orders s) i q)
 good-cut s i o q e g =
     good-stands s (removed (at s (q .stands)) i) q g (omega (arith, length-taken (at s (q .stands)) i o e, g .bounded (Orders s)))
-    (sorted-removed rank-of (at s (q .stands)) i (g .sorted s)) (all-removed (Sided s) (at s (q .stands)) i (g .sided s)) (all-removed (Clear s (q .stands)) (at s (q .stands)) i (all-clear s (q .stands) (g .uncrossed)))
+    (sorted-removed rank-of (at s (q .stands)) i (g .sorted s)) (all-removed (Sided s) (at s (q .stands)) i (g .sided s))
+    (all-removed (Clear s (q .stands)) (at s (q .stands)) i (all-clear s (q .stands) (g .uncrossed)))
 
 pub good-stop-cut : (s : Side) (i : ℕ) (x : Stop) (q : Queues) → nth (at s (q .waits)) i ≡ Some x → Good q → Good (taken (Stops s) i q)
 good-stop-cut s i x q e g =
@@ -138,7 +139,8 @@ pub good-stop-put : (x : Stop) (q : Queues) → count (Stops (x .order .side)) q
 good-stop-put x q n p t g =
     let s : Side = x .order .side in
     let l : List Stop = at s (q .waits) in
-    good-waits s (put-in stop-rank-of x l) q g (omega (arith, length-put-in stop-rank-of x l)) (sorted-put-in stop-rank-of x l (g .stops-sorted s)) (all-put-in stop-rank-of (Stop-sided s) x l (refl, p, t) (g .stops-sided s))
+    good-waits s (put-in stop-rank-of x l) q g (omega (arith, length-put-in stop-rank-of x l)) (sorted-put-in stop-rank-of x l (g .stops-sorted s))
+    (all-put-in stop-rank-of (Stop-sided s) x l (refl, p, t) (g .stops-sided s))
 
 -- one order stands in the place of another
 pub record Same-place (x o : Order) : Type 0 where
@@ -177,8 +179,10 @@ abbrev pub Beyond : Side → Price → List Order → Type 0
 Beyond s limit l = All (λ (a : Order). within s limit (a .price) ≡ false) l
 
 pub clear-beyond : (o : Order) (s : Side) (b : Both (List Order)) → Beyond s (o .price) (at (other s) b) → Clear s b o
-clear-beyond o Buy b h = all-weaker (λ (a : Order). leb (level (a .price)) (level (o .price)) ≡ false) (λ (a : Order). level (o .price) < level (a .price)) (λ a. leb-false (level (a .price)) (level (o .price))) (b .sell) h
-clear-beyond o Sell b h = all-weaker (λ (a : Order). leb (level (o .price)) (level (a .price)) ≡ false) (λ (a : Order). level (a .price) < level (o .price)) (λ a. leb-false (level (o .price)) (level (a .price))) (b .buy) h
+clear-beyond o Buy b h = all-weaker (λ (a : Order). leb (level (a .price)) (level (o .price)) ≡ false) (λ (a : Order). level (o .price) < level (a .price))
+    (λ a. leb-false (level (a .price)) (level (o .price))) (b .sell) h
+clear-beyond o Sell b h = all-weaker (λ (a : Order). leb (level (o .price)) (level (a .price)) ≡ false) (λ (a : Order). level (a .price) < level (o .price))
+    (λ a. leb-false (level (o .price)) (level (a .price))) (b .buy) h
 
 -- what ranks behind the first is priced no better
 pub ranks-lower : (a b : Rank) → before b a ≡ false → a .key ≤ b .key
@@ -206,7 +210,8 @@ beyond-first s limit r rest h d e = (
   e,
   all-weaker (λ a. (before (rank-of a) (rank-of r) ≡ false) × Sided (other s) a) (λ a. within s limit (a .price) ≡ false)
       (λ a k. no-better s limit (r .price) (a .price) (r .turn) (r .number) (a .turn) (a .number) (d .0 .1) (k .1 .1) e
-      (subst (λ z. before (record { key = order-key z (a .price); turn = a .turn; number = a .number }) (record { key = order-key (other s) (r .price); turn = r .turn; number = r .number }) ≡ false) (k .1 .0)
+      (subst (λ z. before (record { key = order-key z (a .price); turn = a .turn; number = a .number })
+      (record { key = order-key (other s) (r .price); turn = r .turn; number = r .number }) ≡ false) (k .1 .0)
       (subst (λ z. before (rank-of a) (record { key = order-key z (r .price); turn = r .turn; number = r .number }) ≡ false) (d .0 .0) (k .0)))) rest
       (all-both (λ a. before (rank-of a) (rank-of r) ≡ false) (Sided (other s)) rest (h .0) (d .1)),
 )

@@ -73,12 +73,14 @@ own-put o x (y ∷ l) e =
     (λ _. ap (λ m. cond (own o y) (Some (y .price)) m) (own-put o x l e))
 
 shown-apart : (o x : Order) (p : Price) (l : List Order) → own o x ≡ false → same-price (x .price) p ≡ false → shown-ahead o p (put-in rank-of x l) ≡ shown-ahead o p l
-shown-apart o x p [] e k = cond-false (own o x) 0 (cond (same-price (x .price) p) (x .shown) 0 + 0) e ∙ (let z : cond (same-price (x .price) p) (x .shown) 0 ≡ 0 = cond-false (same-price (x .price) p) (x .shown) 0 k in let w : cond (same-price (x .price) p) (x .shown) 0 + 0 ≡ 0 = omega arith in w)
+shown-apart o x p [] e k = cond-false (own o x) 0 (cond (same-price (x .price) p) (x .shown) 0 + 0) e ∙
+    (let z : cond (same-price (x .price) p) (x .shown) 0 ≡ 0 = cond-false (same-price (x .price) p) (x .shown) 0 k in let w : cond (same-price (x .price) p) (x .shown) 0 + 0 ≡ 0 = omega arith in w)
 shown-apart o x p (y ∷ l) e k =
     ap (shown-ahead o p) (put-in-cons rank-of x y l)
     ∙ cond-both (before (rank-of x) (rank-of y)) (x ∷ y ∷ l) (y ∷ put-in rank-of x l) (λ m. shown-ahead o p m ≡ shown-ahead o p (y ∷ l))
     (λ _. cond-false (own o x) 0 (cond (same-price (x .price) p) (x .shown) 0 + shown-ahead o p (y ∷ l)) e
-    ∙ (let z : cond (same-price (x .price) p) (x .shown) 0 ≡ 0 = cond-false (same-price (x .price) p) (x .shown) 0 k in let w : cond (same-price (x .price) p) (x .shown) 0 + shown-ahead o p (y ∷ l) ≡ shown-ahead o p (y ∷ l) = omega arith in w))
+    ∙ (let z : cond (same-price (x .price) p) (x .shown) 0 ≡ 0 = cond-false (same-price (x .price) p) (x .shown) 0 k in let w : cond (same-price (x .price) p)
+    (x .shown) 0 + shown-ahead o p (y ∷ l) ≡ shown-ahead o p (y ∷ l) = omega arith in w))
     (λ _. ap (λ n. cond (own o y) 0 (cond (same-price (y .price) p) (y .shown) 0 + n)) (shown-apart o x p l e k))
 
 -- who stands before the first of the own investor is priced no worse
@@ -114,12 +116,14 @@ shown-behind z o x p (y ∷ l) e h d t k = go (own o y) refl e (shown-behind z o
     own-key q = subst (λ (u : Price). order-key (y .side) (y .price) ≤ order-key z u) q (subst (λ (s : Side). order-key (y .side) (y .price) ≤ order-key s (y .price)) (d .0 .0) (omega arith))
 
     go : (b : Bool) → own o y ≡ b → cond b (Some (y .price)) (own-price o l) ≡ Some p →
-        (own-price o l ≡ Some p → Sorted rank-of l → All (Sided z) l → All (λ (y : Order). y .turn < x .turn) l → order-key (x .side) (x .price) ≡ order-key z p → shown-ahead o p (put-in rank-of x l) ≡ shown-ahead o p l) →
+        (own-price o l ≡ Some p → Sorted rank-of l → All (Sided z) l → All (λ (y : Order). y .turn < x .turn) l → order-key (x .side)
+        (x .price) ≡ order-key z p → shown-ahead o p (put-in rank-of x l) ≡ shown-ahead o p l) →
         shown-ahead o p (put-in rank-of x (y ∷ l)) ≡ shown-ahead o p (y ∷ l)
     go true w q ih =
         let b = lower (own-key (let u : y .price ≡ p = cc in u)) in
         ap (shown-ahead o p) (passes b)
-        ∙ (cond-true (own o y) 0 (cond (same-price (y .price) p) (y .shown) 0 + shown-ahead o p (put-in rank-of x l)) w ∙ sym (cond-true (own o y) 0 (cond (same-price (y .price) p) (y .shown) 0 + shown-ahead o p l) w))
+        ∙ (cond-true (own o y) 0 (cond (same-price (y .price) p) (y .shown) 0 + shown-ahead o p (put-in rank-of x l)) w ∙ sym
+        (cond-true (own o y) 0 (cond (same-price (y .price) p) (y .shown) 0 + shown-ahead o p l) w))
     go false w q ih =
         let b = lower (own-behind z o p (rank-of y) l q (d .1) (h .0)) in
         ap (shown-ahead o p) (passes b) ∙ ap (λ n. cond (own o y) 0 (cond (same-price (y .price) p) (y .shown) 0 + n)) (ih q (h .1) (d .1) (t .1) k)
@@ -143,7 +147,8 @@ own-low z o p (y ∷ l) e d = go (own o y) e (λ q. own-low z o p l q (d .1))
 
 -- what is traded with the first comes off the reach
 
-module _ (o r : Order) (l : List Order) (turn : ℕ) (w : within (o .side) (o .price) (r .price) ≡ true) (n : same-investor o r ≡ false) (h : Sorted rank-of (r ∷ l)) (d : All (Sided (other (o .side))) (r ∷ l)) (t : All (λ (y : Order). y .turn < turn) l) where
+module _ (o r : Order) (l : List Order) (turn : ℕ) (w : within (o .side) (o .price) (r .price) ≡ true) (n : same-investor o r ≡ false)
+    (h : Sorted rank-of (r ∷ l)) (d : All (Sided (other (o .side))) (r ∷ l)) (t : All (λ (y : Order). y .turn < turn) l) where
   not-own : own o r ≡ false
   not-own = and-left (same-investor o r) (within (o .side) (o .price) (r .price)) n
 
@@ -162,10 +167,12 @@ module _ (o r : Order) (l : List Order) (turn : ℕ) (w : within (o .side) (o .p
       let c : cond (same-price (r .price) p) (r .shown) 0 ≡ 0 = cond-false (same-price (r .price) p) (r .shown) 0 (better-not-same (other (o .side)) (r .price) p b) in
       omega (arith, ahead-is p))
       (λ (b : level (r .price) ≡ level p).
-      let a : cond (counts o (Some p) r) (r .leaves) 0 ≡ 0 = cond-false (counts o (Some p) r) (r .leaves) 0 (subst (λ (u : Price). better (other (o .side)) u p ≡ false) (sym (price-same (r .price) p b)) (better-itself (other (o .side)) p)) in
+      let a : cond (counts o (Some p) r) (r .leaves) 0 ≡ 0 = cond-false (counts o (Some p) r) (r .leaves) 0
+      (subst (λ (u : Price). better (other (o .side)) u p ≡ false) (sym (price-same (r .price) p b)) (better-itself (other (o .side)) p)) in
       let c : cond (same-price (r .price) p) (r .shown) 0 ≡ r .shown = cond-true (same-price (r .price) p) (r .shown) 0 (eq-eqb (level (r .price)) (level p) b) in
       omega (arith, ahead-is p))
-      (better-or-same (other (o .side)) (r .price) p (d .0 .1) (own-low (other (o .side)) o p l e (d .1)) (subst (λ (s : Side). order-key s (r .price) ≤ order-key (other (o .side)) p) (d .0 .0) (own-behind (other (o .side)) o p (rank-of r) l e (d .1) (h .0))))
+      (better-or-same (other (o .side)) (r .price) p (d .0 .1) (own-low (other (o .side)) o p l e (d .1))
+      (subst (λ (s : Side). order-key s (r .price) ≤ order-key (other (o .side)) p) (d .0 .0) (own-behind (other (o .side)) o p (rank-of r) l e (d .1) (h .0))))
 
   again-by : (m : Option Price) → own-price o l ≡ m → r .shown < r .leaves → reach-by m o (put-in rank-of (renewed turn (r .shown) r) l) + r .shown ≡ reach-by m o (r ∷ l)
   again-by None e k =
@@ -192,7 +199,8 @@ module _ (o r : Order) (l : List Order) (turn : ℕ) (w : within (o .side) (o .p
       let c : cond (same-price (r .price) p) (r .shown) 0 ≡ r .shown = cond-true (same-price (r .price) p) (r .shown) 0 (eq-eqb (level (r .price)) (level p) b) in
       let key : order-key (r .side) (r .price) ≡ order-key (other (o .side)) p = ap (λ (s : Side). order-key s (r .price)) (d .0 .0) ∙ ap (order-key (other (o .side))) q in
       omega (arith, ahead-is p, open-put o (Some p) y l, shown-behind (other (o .side)) o y p l e (h .1) (d .1) t key))
-      (better-or-same (other (o .side)) (r .price) p (d .0 .1) (own-low (other (o .side)) o p l e (d .1)) (subst (λ (s : Side). order-key s (r .price) ≤ order-key (other (o .side)) p) (d .0 .0) (own-behind (other (o .side)) o p (rank-of r) l e (d .1) (h .0))))
+      (better-or-same (other (o .side)) (r .price) p (d .0 .1) (own-low (other (o .side)) o p l e (d .1))
+      (subst (λ (s : Side). order-key s (r .price) ≤ order-key (other (o .side)) p) (d .0 .0) (own-behind (other (o .side)) o p (rank-of r) l e (d .1) (h .0))))
 
   pub reach-gone : r .leaves ≡ r .shown → reach o l + r .shown ≡ reach o (r ∷ l)
   reach-gone k = gone-by (own-price o l) refl k ∙ sym (ap (λ m. reach-by m o (r ∷ l)) first-is)
@@ -233,7 +241,8 @@ reach-endless (suc k) turn o (r ∷ l) h d t m =
     (λ w. cond-both (same-investor o r) 0 (r .shown + endless k (suc turn) o (worn turn r l)) (λ n. reach o (r ∷ l) ≡ n)
     (λ i. reach-own o r l (and-from (same-investor o r) (within (o .side) (o .price) (r .price)) i w) h d)
     (λ i. let a = reach-worn o r l turn w i h d (t .1) in
-    let b = reach-endless k (suc turn) o (worn turn r l) (worn-sorted (eqb (r .leaves) (r .shown))) (worn-sided (eqb (r .leaves) (r .shown))) (worn-early (eqb (r .leaves) (r .shown))) (omega (arith, worn-parts turn r l)) in
+    let b = reach-endless k (suc turn) o (worn turn r l) (worn-sorted (eqb (r .leaves) (r .shown))) (worn-sided (eqb (r .leaves) (r .shown)))
+    (worn-early (eqb (r .leaves) (r .shown))) (omega (arith, worn-parts turn r l)) in
     omega arith))
     (λ w. reach-beyond o (r ∷ l) (beyond-first (o .side) (o .price) r l h d w))
   where

@@ -54,10 +54,12 @@ skip P (Ok x) k next = next x
 skip P (Err e) k next = tt
 
 number-ok : (low high at v : ℕ) → In-ok (λ n. (low ≤ n) × (n ≤ high)) (number-in low high at v)
-number-ok low high at v = cond-both (leb low v && leb v high) (Ok v) (Err _) (In-ok (λ n. (low ≤ n) × (n ≤ high))) (λ e. let a = and-parts (leb low v) (leb v high) e in (leb-true low v (a .0), leb-true v high (a .1))) (λ _. tt)
+number-ok low high at v = cond-both (leb low v && leb v high) (Ok v) (Err _) (In-ok (λ n. (low ≤ n) × (n ≤ high)))
+    (λ e. let a = and-parts (leb low v) (leb v high) e in (leb-true low v (a .0), leb-true v high (a .1))) (λ _. tt)
 
 price-ok : (at : ℕ) (p : Price) → In-ok Low (price-in at p)
-price-ok at p = cond-both (listed p) (Ok p) (Err _) (In-ok Low) (λ e. let a = and-parts (leb 1 (p .hundredths)) (leb (p .hundredths) 99999999) e in omega (arith, leb-true (p .hundredths) 99999999 (a .1))) (λ _. tt)
+price-ok at p = cond-both (listed p) (Ok p) (Err _) (In-ok Low) (λ e. let a = and-parts (leb 1 (p .hundredths)) (leb (p .hundredths) 99999999) e in omega
+    (arith, leb-true (p .hundredths) 99999999 (a .1))) (λ _. tt)
 
 filled-ok : {A B : Type 0} (P : B → Type 0) (f : A → Result B Refusal) → ((a : A) → In-ok P (f a)) → (m : Option A) → In-ok (In-some P) (if-filled f m)
 filled-ok P f h None = tt
@@ -102,7 +104,8 @@ typed-ok f =
 
 allowed-ok : (a : Asked) → Ranged a → In-ok Proper (if-allowed a)
 allowed-ok a r = cond-both (barred a) (Err _) (Ok a) (In-ok Proper) (λ _. tt)
-    (λ e. let b = or-parts (is-stop (a .kind) && (fleeting (a .validity) || ltb 0 (a .minimum))) ((fleeting (a .validity) && ltb 0 (a .disclosed)) || (ltb (a .quantity) (a .minimum) || disclosed-barred (a .quantity) (a .disclosed))) e in
+    (λ e. let b = or-parts (is-stop (a .kind) && (fleeting (a .validity) || ltb 0 (a .minimum)))
+    ((fleeting (a .validity) && ltb 0 (a .disclosed)) || (ltb (a .quantity) (a .minimum) || disclosed-barred (a .quantity) (a .disclosed))) e in
     let c = or-parts (fleeting (a .validity) && ltb 0 (a .disclosed)) (ltb (a .quantity) (a .minimum) || disclosed-barred (a .quantity) (a .disclosed)) (b .1) in
     let d = or-parts (ltb (a .quantity) (a .minimum)) (disclosed-barred (a .quantity) (a .disclosed)) (c .1) in
     record { allowed = allowed-from (a .quantity) (a .disclosed) (r .some) (r .few) (d .1); low = r .low })
@@ -127,7 +130,8 @@ typed-change-ok f =
     skip Change-ranged (label-in 2 (valueOr (f .client) 0)) _ (λ client.
     skip Change-ranged (label-in 3 (valueOr (f .number) 0)) _ (λ number.
     ok-then (In-some Low) Change-ranged (if-filled (price-in 4) (f .price)) _ (filled-ok Low (price-in 4) (price-ok 4) (f .price)) (λ price p.
-    ok-then (In-some (λ n. (1 ≤ n) × (n ≤ 1000000))) Change-ranged (if-filled (lots-in 1 5) (f .quantity)) _ (filled-ok (λ n. (1 ≤ n) × (n ≤ 1000000)) (lots-in 1 5) (number-ok 1 1000000 5) (f .quantity)) (λ quantity q.
+    ok-then (In-some (λ n. (1 ≤ n) × (n ≤ 1000000))) Change-ranged (if-filled (lots-in 1 5) (f .quantity)) _
+    (filled-ok (λ n. (1 ≤ n) × (n ≤ 1000000)) (lots-in 1 5) (number-ok 1 1000000 5) (f .quantity)) (λ quantity q.
     skip Change-ranged (if-filled (lots-in 0 6) (f .disclosed)) _ (λ disclosed.
     skip Change-ranged (if-filled (validity-in 7) (f .validity)) _ (λ validity.
     record { price = p; quantity = q })))))))

@@ -98,8 +98,11 @@ always-lawful (form ∷ forms) s t c m = (lawful-calm s c, always-lawful forms (
 pub always-fair : (forms : List Form) (s : State) (t : Tally) → Calm (floor s) → Matches t (floor s) → Fair-throughout forms s t
 always-fair [] s t c m = tt
 always-fair (form ∷ forms) s t c m =
-    let k = ends-step form s t c m in
-    (subst (λ l. Fair-lines (request form) l t) (sym (written-is s (step form s) (k .said) (k .tape-grew))) (k .fair), always-fair forms (step form s) (tallied form s t) (k .calm) (matches-step form s t c m))
+    let k = ends-step form s t c m in (
+      subst (λ l. Fair-lines (request form) l t) (sym (written-is s (step form s) (k .said) (k .tape-grew))) (k .fair),
+      always-fair forms (step form s)
+          (tallied form s t) (k .calm) (matches-step form s t c m),
+    )
 
 -- setting up
 
@@ -142,7 +145,8 @@ pub upheld : (form : Form) (s : State) → Upheld form s
 upheld form s day stamp q limit forms e =
     let z : State = set-up day stamp q limit in
     let t : Tally = starting (at-least-1 stamp) in
-    subst (λ (s : State). Lawful (step form s) × Fair-lines (request form) (written s (step form s)) (tally-after forms z t)) (sym e) (next (after forms z) (tally-after forms z t) (calm-after forms z t (calm-set-up day stamp q limit) (match-set-up day stamp q limit)))
+    subst (λ (s : State). Lawful (step form s) × Fair-lines (request form) (written s (step form s)) (tally-after forms z t)) (sym e)
+    (next (after forms z) (tally-after forms z t) (calm-after forms z t (calm-set-up day stamp q limit) (match-set-up day stamp q limit)))
   where
     next : (s : State) (t : Tally) → Calm (floor s) × Matches t (floor s) → Lawful (step form s) × Fair-lines (request form) (written s (step form s)) t
     next s t h = let k = ends-step form s t (h .0) (h .1) in

@@ -35,7 +35,17 @@ pub record Goes (q : Request) (t : Tally) (f g : Floor) : Type 0 where
   pub course : Course f g
 
 pub goes-swept : (q : Request) (t : Tally) (f g : Floor) → Swept q t f g → Goes q t f g
-goes-swept q t f g s = record { calm = s .calm; told = record { said = s .said; tape-grew = s .tape-grew; fair = s .fair; with-it = with-match g (noted q (s .said) t) (s .matches) }; course = s .course }
+goes-swept q t f g s = record {
+  calm = s .calm;
+  told = record {
+    said = s .said;
+    tape-grew = s .tape-grew;
+    fair = s .fair;
+    with-it = with-match g
+        (noted q (s .said) t) (s .matches);
+  };
+  course = s .course;
+}
 
 pub goes-enter : (a : Asked) (f : Floor) (t : Tally) → Proper a → Supplied f → Calm f → Matches t f → Goes (entry a) t f (enter a f)
 goes-enter a f t p s c m =

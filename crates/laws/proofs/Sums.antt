@@ -72,7 +72,12 @@ pub queued-put : (g : Measure) (o : Order) (q : Queues) → queued g (placed (St
 queued-put g o q = omega (arith, queued-stands g (o .side) (put-in rank-of o (at (o .side) (q .stands))) q, total-put-in rank-of (g stands) o (at (o .side) (q .stands)))
 
 pub queued-stop-put : (g : Measure) (x : Stop) (q : Queues) → queued g (placed (Waiting x) q) ≡ queued g q + g waits (x .order)
-queued-stop-put g x q = omega (arith, queued-waits g (x .order .side) (put-in stop-rank-of x (at (x .order .side) (q .waits))) q, total-put-in stop-rank-of (of-stop g) x (at (x .order .side) (q .waits)))
+queued-stop-put g x q = omega (
+  arith,
+  queued-waits g (x .order .side) (put-in stop-rank-of x (at (x .order .side) (q .waits))) q,
+  total-put-in stop-rank-of
+      (of-stop g) x (at (x .order .side) (q .waits)),
+)
 
 pub queued-set : (g : Measure) (i : ℕ) (x o : Order) (q : Queues) → nth (at (o .side) (q .stands)) i ≡ Some x →
     queued g (record-set i (Standing o) q) ≡ queued g (taken (Orders (o .side)) i q) + g stands o

@@ -103,7 +103,8 @@ is-only m p o = cond-true (eqb (o .number) (o .number)) m (Some (account p (seen
 
 sum-held : (g : View) (lots turn : ℕ) (o : Order) → lots ≤ o .leaves →
     of-maybe g (take-off lots turn (account incoming (seen incoming o))) ≡ of-hand (by-row g incoming) (held lots o)
-sum-held g lots turn o h = by-number (o .leaves) lots (λ b. of-maybe g (take-off lots turn (account incoming (seen incoming o))) ≡ of-hand (by-row g incoming) (cond b None (Some (renewed (o .turn) lots o))))
+sum-held g lots turn o h = by-number (o .leaves) lots (λ b. of-maybe g (take-off lots turn (account incoming (seen incoming o))) ≡ of-hand (by-row g incoming)
+    (cond b None (Some (renewed (o .turn) lots o))))
     (λ e. ap (of-maybe g) (cond-true (eqb (o .leaves - lots) 0) None (Some (account incoming (less lots (seen incoming o)))) (eq-eqb (o .leaves - lots) 0 (omega arith))))
     (λ e. ap (of-maybe g) (cond-false (eqb (o .leaves - lots) 0) None (Some (account incoming (less lots (seen incoming o)))) (ne-eqb (o .leaves - lots) 0 (λ z. e (omega arith))))
     ∙ (ap (λ n. g incoming (row-with (o .turn) (o .leaves - lots) n (row-of o))) (let z : 0 - lots ≡ 0 = omega arith in z)
@@ -199,12 +200,21 @@ module _ (o r : Order) (f : Floor) (fit : Fits (trades o r) f) (s : Sane f) wher
               sum-fate g lots c r (omega arith),
             ))
             (m .sums));
-        turns = omega (arith, m .turns, stamp-is e f room, m .sums (λ p x. cond (eqb (x .number) (o .number) || eqb (x .number) (r .number)) (cond (ran-out p (less lots x)) 1 0) 0), two-only (λ p x. cond (ran-out p (less lots (seen p x))) 1 0), draws-fate lots r (omega arith));
+        turns = omega (
+          arith,
+          m .turns,
+          stamp-is e f room,
+          m .sums (λ p x. cond (eqb (x .number) (o .number) || eqb (x .number) (r .number))
+              (cond (ran-out p (less lots x)) 1 0) 0),
+          two-only (λ p x. cond (ran-out p (less lots (seen p x))) 1 0),
+          draws-fate lots r (omega arith),
+        );
       }
 
 -- all lots off
 all-off : (turn : ℕ) (p : Place) (o : Order) → take-off (o .leaves) turn (account p (seen p o)) ≡ None
-all-off turn p o = cond-true (eqb (o .leaves - o .leaves) 0) None (Some (account p (refilled (ran-out p (less (o .leaves) (seen p o))) turn (less (o .leaves) (seen p o))))) (eq-eqb (o .leaves - o .leaves) 0 (omega arith))
+all-off turn p o = cond-true (eqb (o .leaves - o .leaves) 0) None (Some (account p
+    (refilled (ran-out p (less (o .leaves) (seen p o))) turn (less (o .leaves) (seen p o))))) (eq-eqb (o .leaves - o .leaves) 0 (omega arith))
 
 gone-off : (g : View) (turn : ℕ) (p : Place) (o : Order) →
     of-maybe g (only (numbered (o .number) (account p (seen p o))) (take-off (o .leaves) turn (account p (seen p o))) (account p (seen p o))) ≡ 0
@@ -214,7 +224,8 @@ gone-off g turn p o = ap (of-maybe g) (is-only (take-off (o .leaves) turn (accou
 module _ (e : Event) (f : Floor) (fit : Fits e f) (s : Sane f) (n : ℕ) (one : 1 ≤ going e f (one-of n)) (t : Tally) (m : Matches t f) where
   pub one-moved : (h : Account → Option Account) → ((g : View) → going e f (through (λ a. only (numbered n a) (h a) a) g) ≡ coming e f (by-row g)) →
       (g : View) → total (on-account g) (adjust (λ a. only (numbered n a) (h a) a) (t .accounts)) ≡ everywhere (by-row g) (happen e f)
-  one-moved h goers = moved (one-of n) (λ a. only (numbered n a) (h a) a) e f (t .accounts) fit s (rest-other e f fit (s .counts) n one) (λ p o z. not-only n (h (account p (seen p o))) p o z) goers (m .sums)
+  one-moved h goers = moved (one-of n) (λ a. only (numbered n a) (h a) a) e f (t .accounts) fit s (rest-other e f fit (s .counts) n one)
+      (λ p o z. not-only n (h (account p (seen p o))) p o z) goers (m .sums)
 
   -- a sum that counts only this order
   pub one-only : (w : Measure) → everywhere (λ p x. cond (eqb (x .number) n) (w p x) 0) f ≡ going e f (λ p x. cond (eqb (x .number) n) (w p x) 0)
@@ -222,7 +233,12 @@ module _ (e : Event) (f : Floor) (fit : Fits e f) (s : Sane f) (n : ℕ) (one : 
       let g : Measure = λ p x. cond (eqb (x .number) n) (w p x) 0 in
       let q : Queues = rest-queues e f in
       let z : over (λ _ _. 0) q None ≡ 0 = omega (arith, total-none (q .stands .buy), total-none (q .stands .sell), total-none (q .waits .buy), total-none (q .waits .sell)) in
-      omega (arith, taken-up g e f fit, over-agree q None (one-of n) g (λ _ _. 0) (λ p x k. cond-false (eqb (x .number) n) (w p x) 0 (zero-one (eqb (x .number) n) k)) (rest-other e f fit (s .counts) n one))
+      omega (
+        arith,
+        taken-up g e f fit,
+        over-agree q None (one-of n) g (λ _ _. 0)
+            (λ p x k. cond-false (eqb (x .number) n) (w p x) 0 (zero-one (eqb (x .number) n) k)) (rest-other e f fit (s .counts) n one),
+      )
 
 pub match-drops : (c : Cause) (o : Order) (f : Floor) → Fits (drops c o) f → Sane f → (t : Tally) → Matches t f →
     Matches (note-cancel (o .number) (o .leaves) t) (happen (drops c o) f)
@@ -286,7 +302,8 @@ match-idle f t e m = record {
     arith,
     total-adjust g up (t .accounts),
     m .sums (λ p r. of-maybe g (up (account p r))),
-    over-agree (f .queues) (f .hand) on-its-way (through up g) (by-row g) (λ p o z. ap (of-maybe g) (stays-so p o z)) (subst (λ h. over on-its-way (f .queues) h ≡ 0) (sym e) (none-on-way (f .queues))),
+    over-agree (f .queues) (f .hand) on-its-way (through up g) (by-row g) (λ p o z. ap (of-maybe g) (stays-so p o z))
+        (subst (λ h. over on-its-way (f .queues) h ≡ 0) (sym e) (none-on-way (f .queues))),
   );
   turns = m .turns;
 }

@@ -33,7 +33,8 @@ fewer-late stamp more p o = cond-both {A = ℕ} (ltb (o .turn) stamp) 0 1 (λ n.
     (λ _. cond-both {A = ℕ} (ltb (o .turn) (stamp + more)) 0 1 (λ n. n ≤ 1) (λ _. omega arith) (λ _. omega arith))
 
 held-early : (stamp lots : ℕ) (o : Order) → o .turn < stamp → of-hand (late stamp incoming) (held lots o) ≡ 0
-held-early stamp lots o h = cond-both (eqb (o .leaves) lots) None (Some (renewed (o .turn) lots o)) (λ m. of-hand (late stamp incoming) m ≡ 0) (λ _. refl) (λ _. early stamp incoming (renewed (o .turn) lots o) h)
+held-early stamp lots o h = cond-both (eqb (o .leaves) lots) None (Some (renewed (o .turn) lots o)) (λ m. of-hand (late stamp incoming) m ≡ 0) (λ _. refl)
+    (λ _. early stamp incoming (renewed (o .turn) lots o) h)
 
 fate-early : (k : Fate) (lots stamp : ℕ) (r : Order) → r .turn < stamp → of-fate (late (stamp + fate-draws k) stands) k lots stamp r ≡ 0
 fate-early gone lots stamp r h = refl
