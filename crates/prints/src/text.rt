@@ -1,5 +1,8 @@
-// How prices and lines of the tape print.
+// How prices, lines of the tape, replies and standing orders print.
+use orders::order::Order;
 use orders::price::Price;
+use orders::side::Side;
+use sheets::reply::Reply;
 use std::fmt;
 use tapes::line::Line;
 
@@ -74,5 +77,49 @@ pub impl fmt::Display for LineText as LineTextDisplay {
                 write!(f, "C {number} 0 {price} {lots} {cause}")
             }
         }
+    }
+}
+
+// What a row is answered: number, cell, place.
+#[derive(Clone, Copy)]
+pub struct AnswerText(pub Reply);
+
+pub impl fmt::Display for AnswerText as AnswerTextDisplay {
+    fn fmt<W: fmt::Write>(&self, f: &mut fmt::Formatter<W>) -> fmt::Result {
+        let number = self.0.number;
+        let cell = self.0.cell;
+        let place = self.0.place;
+        write!(f, "{number} {cell} {place}")
+    }
+}
+
+// A reply with the row that it answers.
+#[derive(Clone, Copy)]
+pub struct ReplyText(pub Reply);
+
+pub impl fmt::Display for ReplyText as ReplyTextDisplay {
+    fn fmt<W: fmt::Write>(&self, f: &mut fmt::Formatter<W>) -> fmt::Result {
+        let row = self.0.row;
+        let answer = AnswerText(self.0);
+        write!(f, "reply {row} {answer}")
+    }
+}
+
+// An order that stands: its side, number, price, and its shown and open lots.
+#[derive(Clone, Copy)]
+pub struct StandingText(pub Order);
+
+pub impl fmt::Display for StandingText as StandingTextDisplay {
+    fn fmt<W: fmt::Write>(&self, f: &mut fmt::Formatter<W>) -> fmt::Result {
+        let order = self.0;
+        let name = match order.side {
+            Side::Buy => "bid",
+            Side::Sell => "offer",
+        };
+        let number = order.number;
+        let price = PriceText(order.price);
+        let shown = order.shown;
+        let open = order.leaves;
+        write!(f, "{name} {number} {price} {shown} {open}")
     }
 }

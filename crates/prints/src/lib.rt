@@ -1,0 +1,2 @@
+// How what a venue says is printed.
+pub mod text;
