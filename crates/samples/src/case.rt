@@ -63,4 +63,12 @@ impl<'a> Case<'a> {
         self.expected.push(text)?;
         Ok(())
     }
+
+    // The line expected at a place.
+    pub fn expected_at(&self, i: usize) -> &'a str {
+        match self.expected.get(i) {
+            Some(text) => *text,
+            None => "nothing",
+        }
+    }
 }

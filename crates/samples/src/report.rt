@@ -26,8 +26,10 @@ pub fn report(rt: &LibcRuntime, case: &Case, tally: &mut Tally) -> Result<(), An
     }
     let got = play(rt.alloc(), case)?;
     tally.cases = tally.cases.saturating_add(1);
-    match first_difference(case.expected.as_slice(), got.as_slice()) {
-        Some((want, have)) => {
+    match first_difference(case, got.as_slice()) {
+        Some(i) => {
+            let want = case.expected_at(i);
+            let have = got_at(got.as_slice(), i);
             tally.differ = tally.differ.saturating_add(1);
             println!(rt, "{name}: expected {want}, got {have}")?;
         }
@@ -36,25 +38,17 @@ pub fn report(rt: &LibcRuntime, case: &Case, tally: &mut Tally) -> Result<(), An
     Ok(())
 }
 
-fn first_difference<'a>(expected: &[&'a str], got: &'a [String]) -> Option<(&'a str, &'a str)> {
-    for i in 0..expected.len().max(got.len()) {
-        let want = expected_at(expected, i);
-        let have = got_at(got, i);
-        if want != have {
-            return Some((want, have));
+// The first place where what was expected and what came differ.
+fn first_difference(case: &Case, got: &[String]) -> Option<usize> {
+    for i in 0..case.expected.len().max(got.len()) {
+        if case.expected_at(i) != got_at(got, i) {
+            return Some(i);
         }
     }
     None
 }
 
-fn expected_at<'a>(expected: &[&'a str], i: usize) -> &'a str {
-    if i < expected.len() {
-        expected[i]
-    } else {
-        "nothing"
-    }
-}
-
+// What came at a place.
 fn got_at(got: &[String], i: usize) -> &str {
     match got.get(i) {
         Some(text) => text.as_str(),
