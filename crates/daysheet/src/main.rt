@@ -7,26 +7,25 @@ use cards::card::FrontCard;
 use cards::card::work::FrontCardBook;
 use desk::row::work_row;
 use desk::whole::admit;
+use laws::calls::set_up;
+use orders::ranked::OrderRowRanked;
+use orders::ranked::StopRowRanked;
 use orders::side::Side;
+use prints::text::LineText;
+use prints::text::LineTextDisplay;
+use prints::text::ReplyText;
+use prints::text::ReplyTextDisplay;
+use prints::text::StandingText;
+use prints::text::StandingTextDisplay;
 use sheets::replies::Replies;
 use sheets::reply::Reply;
 use sheets::sheet::Sheet;
 use slots::book::slot_book;
+use slots::row::SlotRowLane;
 use std::error::AnyError;
 use std::io::Read;
 use tapes::tape::Tape;
 use venue::day::Day;
-
-mod text;
-
-use laws::calls::set_up;
-use orders::ranked::OrderRowRanked;
-use orders::ranked::StopRowRanked;
-use slots::row::SlotRowLane;
-use text::LineText;
-use text::LineTextDisplay;
-use text::PriceText;
-use text::PriceTextDisplay;
 
 // One byte more than a sheet may have.
 const INPUT_BYTES: usize = 65_536;
@@ -94,8 +93,8 @@ fn work_rows<B: Book>(
     }
     day.end();
     printed?;
-    print_queue(rt, book, Side::Buy, "bid")?;
-    print_queue(rt, book, Side::Sell, "offer")
+    print_queue(rt, book, Side::Buy)?;
+    print_queue(rt, book, Side::Sell)
 }
 
 // The lines that a row wrote, and its reply.
@@ -116,33 +115,20 @@ fn print_row(
 }
 
 fn print_reply(rt: &LibcRuntime, reply: Reply) -> Result<(), AnyError> {
-    let Reply {
-        row,
-        number,
-        cell,
-        place,
-    } = reply;
-    println!(rt, "reply {row} {number} {cell} {place}")?;
+    let reply = ReplyText(reply);
+    println!(rt, "{reply}")?;
     Ok(())
 }
 
 // The orders that stand on a side, by rank.
-fn print_queue<B: Book>(
-    rt: &LibcRuntime,
-    book: &B,
-    side: Side,
-    name: &str,
-) -> Result<(), AnyError> {
+fn print_queue<B: Book>(rt: &LibcRuntime, book: &B, side: Side) -> Result<(), AnyError> {
     let size = book.size(Queue::Orders(side));
     for place in 0..size.0 {
         let Some(order) = order_in(book.look(Queue::Orders(side), place)) else {
             return Ok(());
         };
-        let number = order.number;
-        let price = PriceText(order.price);
-        let shown = order.shown;
-        let open = order.leaves;
-        println!(rt, "{name} {number} {price} {shown} {open}")?;
+        let order = StandingText(order);
+        println!(rt, "{order}")?;
     }
     Ok(())
 }

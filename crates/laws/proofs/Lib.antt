@@ -21,6 +21,7 @@ pub mod Reading
 pub mod Answering
 pub mod Running
 pub mod Listing
+pub mod Keeping
 pub mod Broken
 pub mod Asking
 pub mod Reaches

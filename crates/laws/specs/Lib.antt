@@ -6,3 +6,4 @@ pub mod Runs
 pub mod Teeth
 pub mod Smooth
 pub mod Reaching
+pub mod Kept

@@ -4,6 +4,7 @@ ghost use Rattle.tapes.specs.Reels.{reel};
 ghost use Rattle.venue.specs.Days.{state, set-up, at-least-1, answer, step};
 ghost use Rattle.venue.specs.declared.day.Day.the-variants.{Open};
 ghost use Rattle.laws.specs.Tally.{starting};
+ghost use Rattle.laws.specs.Kept.{Smoothly, Filled-by};
 ghost use Rattle.laws.specs.Runs.{Lawful, Throughout, Fair-throughout, Upheld, after};
 use books::book::Book;
 use forms::form::Form;
@@ -31,6 +32,8 @@ pub fn step<B: Book>(
     ensures told { λ r. ⌜ r .1 ≡ answer form (state (queues (now (book .entry))) (now (tape .entry)) day) ⌝ }
     ensures left { λ r. ⌜ state (queues (now (book .exit))) (now (tape .exit)) (r .0) ≡ step form (state (queues (now (book .entry))) (now (tape .entry)) day) ⌝ }
     ensures upheld { λ _. ⌜ Upheld form (state (queues (now (book .entry))) (now (tape .entry)) day) ⌝ }
+    ensures smooth { λ _. ⌜ Smoothly form (state (queues (now (book .entry))) (now (tape .entry)) day) ⌝ }
+    ensures filled { λ _. ⌜ Filled-by form (state (queues (now (book .entry))) (now (tape .entry)) day) ⌝ }
 {
     day.step(book, tape, form)
 }

@@ -18,13 +18,13 @@ pub(crate) fn word_at(bytes: &[u8], i: u32) -> u16
     u16::from(byte_at(bytes, at)) * 256 + u16::from(byte_at(bytes, at + 1))
 }
 
-pub(crate) fn bytes_from(bytes: &[u8], i: usize) -> &[u8]
+pub fn bytes_from(bytes: &[u8], i: usize) -> &[u8]
     ensures { λ r. ⌜ now r ≡ drop i (now (bytes .entry)) ⌝ }
 {
     if i < bytes.len() { &bytes[i..] } else { &[] }
 }
 
-pub(crate) fn part_of(bytes: &[u8], offset: usize, len: usize) -> &[u8]
+pub fn part_of(bytes: &[u8], offset: usize, len: usize) -> &[u8]
     ensures { λ r. ⌜ now r ≡ part (now (bytes .entry)) offset len ⌝ }
 {
     let rest = bytes_from(bytes, offset);

@@ -63,7 +63,7 @@ fn digits_of(cell: &[u8], most: usize) -> Front
 }
 
 // A number cell: 1 to 12 digits.
-pub(crate) fn read_number(cell: &[u8]) -> Result<Option<u64>, u8>
+pub fn read_number(cell: &[u8]) -> Result<Option<u64>, u8>
     ensures told { λ r. ⌜ r ≡ read-number (now (cell .entry)) ⌝ }
 {
     if cell.is_empty() {
@@ -93,7 +93,7 @@ fn read_cents(before: usize, units: u64, cents: &[u8]) -> Result<Option<Price>, 
 }
 
 // A price cell: 1 to 6 digits, a comma and two digits.
-pub(crate) fn read_price(cell: &[u8]) -> Result<Option<Price>, u8>
+pub fn read_price(cell: &[u8]) -> Result<Option<Price>, u8>
     ensures told { λ r. ⌜ r ≡ read-price (now (cell .entry)) ⌝ }
 {
     if cell.is_empty() {
@@ -108,7 +108,7 @@ pub(crate) fn read_price(cell: &[u8]) -> Result<Option<Price>, u8>
 }
 
 // The type cell: any one byte.
-pub(crate) fn read_type(cell: &[u8]) -> Result<Option<u8>, u8>
+pub fn read_type(cell: &[u8]) -> Result<Option<u8>, u8>
     ensures told { λ r. ⌜ r ≡ read-type (now (cell .entry)) ⌝ }
 {
     match cell {

@@ -1,6 +1,6 @@
 // Reads an order sheet from bytes, and owes a reply for each of its rows.
-mod bytes;
-mod cells;
+pub mod bytes;
+pub mod cells;
 mod directory;
 pub mod letter;
 pub mod replies;

@@ -1,0 +1,5 @@
+pub mod Words
+pub mod Columns
+pub mod Values
+pub mod Cells
+pub mod Lines
