@@ -6,6 +6,7 @@ ghost use Rattle.std.specs.Results.{Cases};
 ghost use Rattle.std.specs.declared.result.Result.the-variants.{Ok, Err};
 ghost use Rattle.tables.specs.Cells.{blank-cells};
 ghost use Rattle.tables.specs.Lines.{read-words, read-line};
+ghost use Rattle.tables.specs.Worked.{Worked};
 use crate::cells::Cells;
 use crate::columns::letter_word;
 use crate::words::BadWord;
@@ -49,4 +50,11 @@ pub fn read_line(line: &[u8]) -> Result<Option<Form>, BadWord>
         Ok(cells) => Ok(Some(cells.form(letter))),
         Err(bad) => Err(bad),
     }
+}
+
+// The worked lines are read as they say.
+pub fn worked() -> bool
+    ensures { λ _. ⌜ Worked ⌝ }
+{
+    true
 }
