@@ -1,4 +1,7 @@
 // How prices, lines of the tape, replies and standing orders print.
+ghost use mathlib.Core.Path.{_≡_};
+ghost use Rattle.std.specs.declared.option.Option.the-variants.{Some};
+ghost use Rattle.prints.specs.Texts.{price-text, limit-level, line-text, answer-text, reply-text, side-text, standing-text};
 use orders::order::Order;
 use orders::price::Price;
 use orders::side::Side;
@@ -11,15 +14,20 @@ use tapes::line::Line;
 pub struct PriceText(pub Price);
 
 pub impl fmt::Display for PriceText as PriceTextDisplay {
+    ghost shown = { λ x. Some (price-text (x .0 .hundredths)) };
+
     fn fmt<W: fmt::Write>(&self, f: &mut fmt::Formatter<W>) -> fmt::Result {
         let whole = self.0.hundredths / 100;
-        let cents = self.0.hundredths % 100;
-        write!(f, "{whole},{cents:02}")
+        let tenths = self.0.hundredths % 100 / 10;
+        let rest = self.0.hundredths % 10;
+        write!(f, "{whole},{tenths}{rest}")
     }
 }
 
 // An absent limit prints as 0,00.
-fn limit_text(limit: Option<Price>) -> PriceText {
+fn limit_text(limit: Option<Price>) -> PriceText
+    ensures { λ r. ⌜ r .0 .hundredths ≡ limit-level limit ⌝ }
+{
     match limit {
         Some(price) => PriceText(price),
         None => PriceText(Price { hundredths: 0 }),
@@ -31,6 +39,8 @@ fn limit_text(limit: Option<Price>) -> PriceText {
 pub struct LineText(pub Line);
 
 pub impl fmt::Display for LineText as LineTextDisplay {
+    ghost shown = { λ x. Some (line-text (x .0)) };
+
     fn fmt<W: fmt::Write>(&self, f: &mut fmt::Formatter<W>) -> fmt::Result {
         match self.0 {
             Line::Entered {
@@ -85,6 +95,8 @@ pub impl fmt::Display for LineText as LineTextDisplay {
 pub struct AnswerText(pub Reply);
 
 pub impl fmt::Display for AnswerText as AnswerTextDisplay {
+    ghost shown = { λ x. Some (answer-text (x .0)) };
+
     fn fmt<W: fmt::Write>(&self, f: &mut fmt::Formatter<W>) -> fmt::Result {
         let number = self.0.number;
         let cell = self.0.cell;
@@ -98,10 +110,21 @@ pub impl fmt::Display for AnswerText as AnswerTextDisplay {
 pub struct ReplyText(pub Reply);
 
 pub impl fmt::Display for ReplyText as ReplyTextDisplay {
+    ghost shown = { λ x. Some (reply-text (x .0)) };
+
     fn fmt<W: fmt::Write>(&self, f: &mut fmt::Formatter<W>) -> fmt::Result {
         let row = self.0.row;
         let answer = AnswerText(self.0);
         write!(f, "reply {row} {answer}")
+    }
+}
+
+fn side_text(side: Side) -> &'static str
+    ensures { λ r. ⌜ now r ≡ side-text side ⌝ }
+{
+    match side {
+        Side::Buy => "bid",
+        Side::Sell => "offer",
     }
 }
 
@@ -110,12 +133,11 @@ pub impl fmt::Display for ReplyText as ReplyTextDisplay {
 pub struct StandingText(pub Order);
 
 pub impl fmt::Display for StandingText as StandingTextDisplay {
+    ghost shown = { λ x. Some (standing-text (x .0)) };
+
     fn fmt<W: fmt::Write>(&self, f: &mut fmt::Formatter<W>) -> fmt::Result {
         let order = self.0;
-        let name = match order.side {
-            Side::Buy => "bid",
-            Side::Sell => "offer",
-        };
+        let name = side_text(order.side);
         let number = order.number;
         let price = PriceText(order.price);
         let shown = order.shown;

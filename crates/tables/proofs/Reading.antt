@@ -1,5 +1,5 @@
 -- One word of a line.
-use Prim.Native.Nat.{ℕ, zero, suc, _+_, _<_}
+use Prim.Native.Nat.{ℕ, zero, suc, _+_, _≤_}
 use mathlib.Core.Path.{_≡_, refl, sym, ap, _∙_}
 use mathlib.Core.Bool.{Bool, cond}
 use mathlib.Core.List.{List}
@@ -14,7 +14,7 @@ use Rattle.sheets.specs.Layout.{part}
 use Rattle.sheets.specs.declared.letter.Letter.{Letter}
 use Rattle.tables.specs.declared.words.Word.{Word}
 use Rattle.tables.specs.declared.words.BadWord.{BadWord}
-use Rattle.tables.specs.Words.{next-word, bad-word}
+use Rattle.tables.specs.Words.{next-word, bad-word, In-line}
 use Rattle.tables.specs.Cells.{Values, with-word}
 use Rattle.tables.specs.Lines.{go-on, read-word, read-words}
 
@@ -52,3 +52,10 @@ one-more m letter line at cells w n k e z bytes o b h = first n m letter line at
 pub no-words : (n : ℕ) (letter : Letter) (line : List ℕ) (at : ℕ) (cells : Values) → n ≡ 0 → read-words n letter line at cells ≡ Ok cells
 unfolding read-words
 no-words n letter line at cells k = rw k refl
+
+-- a word that spoils a line lies in it
+pub lies : (n : ℕ) (w : Word) (b : BadWord) → b ≡ bad-word w → (w .size ≡ 0 → ⊥) → w .start + w .size ≤ n → In-line n b
+lies n w b e z h =
+    let p : b .place ≡ w .start + 1 = ap (λ (x : BadWord). x .place) e in
+    let l : b .length ≡ w .size = ap (λ (x : BadWord). x .length) e in
+    record { from-1 = omega arith; some = omega (arith, z); inside = omega arith }

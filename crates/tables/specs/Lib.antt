@@ -3,3 +3,4 @@ pub mod Columns
 pub mod Values
 pub mod Cells
 pub mod Lines
+pub mod Worked

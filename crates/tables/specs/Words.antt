@@ -1,5 +1,5 @@
 -- The words of a line.
-use Prim.Native.Nat.{ℕ, _+_}
+use Prim.Native.Nat.{ℕ, _+_, _≤_}
 use mathlib.Core.Bool.{Bool, not, _&&_}
 use mathlib.Core.List.{List}
 use lib.Dec.{eqb}
@@ -27,3 +27,9 @@ next-word line at = word-from line (at + leading (takes Spaces) (drop at line))
 -- what is said of a word that spoils its line: its place, from 1, and its length
 abbrev pub bad-word : word.Word → BadWord
 bad-word w = record { place = w .start + 1; length = w .size }
+
+-- it has bytes, and they lie in the line of n bytes
+pub record In-line (n : ℕ) (w : BadWord) : Type 0 where
+  pub from-1 : 1 ≤ w .place
+  pub some : 1 ≤ w .length
+  pub inside : w .place + w .length ≤ n + 1
