@@ -1,12 +1,13 @@
 // How prices, lines of the tape, replies and standing orders print.
 ghost use mathlib.Core.Path.{_≡_};
 ghost use Rattle.std.specs.declared.option.Option.the-variants.{Some};
-ghost use Rattle.prints.specs.Texts.{price-text, limit-level, line-text, answer-text, reply-text, side-text, standing-text};
+ghost use Rattle.prints.specs.Texts.{price-text, price-of, of-one, with-other, with-cause, fields, fields-text, answer-text, reply-text, side-text, standing-text};
 use orders::order::Order;
 use orders::price::Price;
 use orders::side::Side;
 use sheets::reply::Reply;
 use std::fmt;
+use tapes::cause::Cause;
 use tapes::line::Line;
 
 // A price, as 0,05 and 20,00.
@@ -24,69 +25,107 @@ pub impl fmt::Display for PriceText as PriceTextDisplay {
     }
 }
 
-// An absent limit prints as 0,00.
-fn limit_text(limit: Option<Price>) -> PriceText
-    ensures { λ r. ⌜ r .0 .hundredths ≡ limit-level limit ⌝ }
-{
-    match limit {
-        Some(price) => PriceText(price),
-        None => PriceText(Price { hundredths: 0 }),
-    }
-}
-
 // A line by its fields: kind, number, other, price, lots, cause, and 0 where unused.
 #[derive(Clone, Copy)]
 pub struct LineText(pub Line);
 
 pub impl fmt::Display for LineText as LineTextDisplay {
-    ghost shown = { λ x. Some (line-text (x .0)) };
+    ghost shown = { λ x. Some (fields-text (fields (x .0))) };
 
     fn fmt<W: fmt::Write>(&self, f: &mut fmt::Formatter<W>) -> fmt::Result {
-        match self.0 {
+        let fields = Fields::of_line(self.0);
+        let kind = fields.kind;
+        let number = fields.number;
+        let other = fields.other;
+        let price = PriceText(fields.price);
+        let lots = fields.lots;
+        let cause = fields.cause;
+        write!(f, "{kind} {number} {other} {price} {lots} {cause}")
+    }
+}
+
+#[derive(Clone, Copy)]
+struct Fields {
+    kind: char,
+    number: u32,
+    other: u32,
+    price: Price,
+    lots: u32,
+    cause: u8,
+}
+
+impl Fields {
+    // The fields of a line that has no other order and no cause.
+    fn of_one(kind: char, number: u32, price: Price, lots: u32) -> Fields
+        ensures { λ r. ⌜ r ≡ of-one kind number price lots ⌝ }
+    {
+        Fields {
+            kind,
+            number,
+            other: 0,
+            price,
+            lots,
+            cause: 0,
+        }
+    }
+
+    fn of_line(line: Line) -> Fields
+        ensures { λ r. ⌜ r ≡ fields line ⌝ }
+    {
+        match line {
             Line::Entered {
                 number,
                 limit,
                 quantity,
-            } => {
-                let price = limit_text(limit);
-                write!(f, "A {number} 0 {price} {quantity} 0")
-            }
+            } => Fields::of_one('A', number, price_of(limit), quantity),
             Line::Replaced {
                 number,
                 limit,
                 quantity,
-            } => {
-                let price = PriceText(limit);
-                write!(f, "R {number} 0 {price} {quantity} 0")
-            }
+            } => Fields::of_one('R', number, limit, quantity),
             Line::Released {
                 number,
                 limit,
                 lots,
-            } => {
-                let price = PriceText(limit);
-                write!(f, "S {number} 0 {price} {lots} 0")
-            }
+            } => Fields::of_one('S', number, limit, lots),
             Line::Traded {
                 incoming,
                 resting,
                 price,
                 lots,
-            } => {
-                let price = PriceText(price);
-                write!(f, "T {incoming} {resting} {price} {lots} 0")
-            }
+            } => Fields::of_one('T', incoming, price, lots).with_other(resting),
             Line::Cancelled {
                 number,
                 limit,
                 lots,
                 cause,
-            } => {
-                let price = limit_text(limit);
-                let cause = cause.number();
-                write!(f, "C {number} 0 {price} {lots} {cause}")
-            }
+            } => Fields::of_one('C', number, price_of(limit), lots).with_cause(cause),
         }
+    }
+
+    fn with_other(self, other: u32) -> Fields
+        ensures { λ r. ⌜ r ≡ with-other self other ⌝ }
+    {
+        Fields { other, ..self }
+    }
+
+    fn with_cause(self, cause: Cause) -> Fields
+        ensures { λ r. ⌜ r ≡ with-cause self cause ⌝ }
+    {
+        Fields {
+            cause: cause.number(),
+            ..self
+        }
+    }
+}
+
+// An absent limit prints as 0,00.
+fn price_of(limit: Option<Price>) -> Price
+    ensures { λ r. ⌜ r ≡ price-of limit ⌝ }
+{
+    match limit {
+        Some(price) => price,
+        None => Price { hundredths: 0 },
     }
 }
 
