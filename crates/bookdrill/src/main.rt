@@ -1,4 +1,6 @@
 // The strip book, the slot book, and front cards above them under the same steps: they tell the same.
+#![tactic(auto)]
+
 ghost use Rattle.std.specs.Prelude.{◌≡◌};
 ghost use Rattle.books.specs.Lanes.{empty_queues};
 ghost use Rattle.cards.specs.Cards.{card_queues};

@@ -1,4 +1,6 @@
 // What a book of orders and stops is, and the one book over four lanes of plain rows.
+#![tactic(auto)]
+
 pub mod book;
 pub mod kept;
 pub mod lane;

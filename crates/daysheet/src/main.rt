@@ -1,4 +1,6 @@
 // Reads an order sheet from standard input, works it row by row and prints what came of it.
+#![tactic(auto)]
+
 use books::book::Book;
 use books::lane::Lane;
 use books::pick::order_in;

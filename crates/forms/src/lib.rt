@@ -1,3 +1,5 @@
 // What is asked of a venue, cell by cell, and what it may be refused with.
+#![tactic(auto)]
+
 pub mod form;
 pub mod refusal;

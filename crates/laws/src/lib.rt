@@ -1,4 +1,6 @@
 // The laws of every run, above any book: each is the contract of a function that does nothing else.
+#![tactic(auto)]
+
 pub mod calls;
 pub mod days;
 

@@ -1,4 +1,6 @@
 // How orders trade: the incoming order, the stops that it sets off, changes and removals, above any book.
+#![tactic(auto)]
+
 pub mod asked;
 pub mod change;
 pub mod changing;

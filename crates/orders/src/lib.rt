@@ -1,4 +1,6 @@
 // Orders, stops, their plain rows, and how they rank.
+#![tactic(auto)]
+
 pub mod lots;
 pub mod order;
 pub mod price;

@@ -1,2 +1,4 @@
 // How what a venue says is printed.
+#![tactic(auto)]
+
 pub mod text;

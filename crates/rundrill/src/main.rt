@@ -1,4 +1,6 @@
 // One list of forty steps over the strip book, the slot book and a front card above each: they tell the same.
+#![tactic(auto)]
+
 use books::book::Book;
 use books::pick::order_in;
 use books::queue::Queue;

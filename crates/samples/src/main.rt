@@ -1,4 +1,6 @@
 // Runs a file of cases from standard input, each on a fresh venue, and says which of them differ.
+#![tactic(auto)]
+
 mod case;
 mod play;
 mod report;

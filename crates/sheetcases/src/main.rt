@@ -1,4 +1,6 @@
 // Reads a table of sheets from standard input, each with what the rules give it, and says which of them differ.
+#![tactic(auto)]
+
 mod outcome;
 mod table;
 

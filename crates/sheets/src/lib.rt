@@ -1,4 +1,6 @@
 // Reads an order sheet from bytes, and owes a reply for each of its rows.
+#![tactic(auto)]
+
 pub mod bytes;
 pub mod cells;
 mod directory;

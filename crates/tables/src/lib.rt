@@ -1,4 +1,6 @@
 // A row of an order sheet as a line of text: the letter, then cells by name, as `X firm=12 number=3`.
+#![tactic(auto)]
+
 mod cells;
 mod columns;
 mod forms;

@@ -1,4 +1,6 @@
 // A venue: its days and the steps that members take on it, above any book.
+#![tactic(auto)]
+
 pub mod changing;
 pub mod closing;
 pub mod day;
