@@ -18,7 +18,7 @@ pub fn work_row<B: Book>(
     tape: &mut Tape,
     replies: &mut Replies,
 ) -> Day
-    ensures { desk (state (queues book.new) tape.new result) replies.new ≡ row_done drawn.entry.slip.row drawn.entry.bytes.now (desk (state (queues book.old) tape.old day) replies.old) }
+    ensures { desk (state (B.queues book.new) tape.new result) replies.new ≡ row_done drawn.entry.slip.row drawn.entry.bytes.now (desk (state (B.queues book.old) tape.old day) replies.old) }
 {
     let Drawn { slip, bytes } = drawn;
     match read_form(bytes) {

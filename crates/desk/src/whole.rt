@@ -34,8 +34,8 @@ pub fn work_sheet<B: Book>(
     tape: &mut Tape,
     replies: &mut Replies,
 ) -> (Day, Option<Reply>)
-    ensures told { result.1 ≡ option_map sheet_reply (sheet_told bytes.now (desk (state (queues book.old) tape.old day) replies.old)) }
-    ensures left { desk (state (queues book.new) tape.new result.0) replies.new ≡ sheet_done bytes.now (desk (state (queues book.old) tape.old day) replies.old) }
+    ensures told { result.1 ≡ option_map sheet_reply (sheet_told bytes.now (desk (state (B.queues book.old) tape.old day) replies.old)) }
+    ensures left { desk (state (B.queues book.new) tape.new result.0) replies.new ≡ sheet_done bytes.now (desk (state (B.queues book.old) tape.old day) replies.old) }
 {
     let mut sheet = match admit(bytes, replies) {
         Ok(sheet) => sheet,

@@ -16,8 +16,8 @@ use venue::setup;
 
 // Clears the book and the tape and opens the day.
 pub fn set_up<B: Book>(book: &mut B, tape: &mut Tape, day: u16, stamp: u32) -> Day
-    ensures left { state (queues book.new) tape.new result ≡ set_up day stamp (queues book.old) (reel tape.old).limit }
-    ensures lawful { Lawful (state (queues book.new) tape.new result) }
+    ensures left { state (B.queues book.new) tape.new result ≡ set_up day stamp (B.queues book.old) (reel tape.old).limit }
+    ensures lawful { Lawful (state (B.queues book.new) tape.new result) }
 {
     let open = setup::set_up(book, tape, day, stamp);
     Day::Open(open)
@@ -30,20 +30,20 @@ pub fn step<B: Book>(
     tape: &mut Tape,
     form: Form,
 ) -> (Day, Result<(), Refusal>)
-    ensures told { result.1 ≡ answer form (state (queues book.old) tape.old day) }
-    ensures left { state (queues book.new) tape.new result.0 ≡ step form (state (queues book.old) tape.old day) }
-    ensures upheld { Upheld form (state (queues book.old) tape.old day) }
-    ensures smooth { Smoothly form (state (queues book.old) tape.old day) }
-    ensures filled { FilledBy form (state (queues book.old) tape.old day) }
+    ensures told { result.1 ≡ answer form (state (B.queues book.old) tape.old day) }
+    ensures left { state (B.queues book.new) tape.new result.0 ≡ step form (state (B.queues book.old) tape.old day) }
+    ensures upheld { Upheld form (state (B.queues book.old) tape.old day) }
+    ensures smooth { Smoothly form (state (B.queues book.old) tape.old day) }
+    ensures filled { FilledBy form (state (B.queues book.old) tape.old day) }
 {
     day.step(book, tape, form)
 }
 
 // Sets up and takes a whole list of steps; the laws hold after setting up and after each of them.
 pub fn run<B: Book>(book: &mut B, tape: &mut Tape, day: u16, stamp: u32, forms: &[Form]) -> Day
-    ensures left { state (queues book.new) tape.new result ≡ after forms.now (set_up day stamp (queues book.old) (reel tape.old).limit) }
-    ensures lawful { Throughout Lawful forms.now (set_up day stamp (queues book.old) (reel tape.old).limit) }
-    ensures fair { FairThroughout forms.now (set_up day stamp (queues book.old) (reel tape.old).limit) (starting (at_least_1 stamp)) }
+    ensures left { state (B.queues book.new) tape.new result ≡ after forms.now (set_up day stamp (B.queues book.old) (reel tape.old).limit) }
+    ensures lawful { Throughout Lawful forms.now (set_up day stamp (B.queues book.old) (reel tape.old).limit) }
+    ensures fair { FairThroughout forms.now (set_up day stamp (B.queues book.old) (reel tape.old).limit) (starting (at_least_1 stamp)) }
 {
     let mut current = set_up(book, tape, day, stamp);
     for form in forms {

@@ -27,7 +27,7 @@ fn replaced(order: Order) -> Line
 
 // The order at a place keeps it.
 fn amend<B: Book>(book: &mut B, tape: &mut Tape, at: usize, order: Order)
-    ensures { (c : Numbers) → floor (queues book.new) tape.new c None ≡ happen (amends at order) (floor (queues book.old) tape.old c None) }
+    ensures { (c : Numbers) → floor (B.queues book.new) tape.new c None ≡ happen (amends at order) (floor (B.queues book.old) tape.old c None) }
 {
     let _ = book.rewrite(at, Record::Standing(order));
     tape.write(replaced(order));
@@ -42,7 +42,7 @@ fn recall<B: Book>(
     at: usize,
     order: Order,
 )
-    ensures { floor (queues book.new) tape.new clock.new (Some order) ≡ happen (recalls side at order) (floor (queues book.old) tape.old clock.old None) }
+    ensures { floor (B.queues book.new) tape.new clock.new (Some order) ≡ happen (recalls side at order) (floor (B.queues book.old) tape.old clock.old None) }
 {
     let _ = book.take(Queue::Orders(side), at);
     tape.write(replaced(order));
@@ -59,7 +59,7 @@ pub fn change<B: Book>(
     at: usize,
     order: Order,
 )
-    ensures { floor (queues book.new) tape.new clock.new None ≡ change_at asked side at order (floor (queues book.old) tape.old clock.old None) }
+    ensures { floor (B.queues book.new) tape.new clock.new None ≡ change_at asked side at order (floor (B.queues book.old) tape.old clock.old None) }
 {
     if asked.loses_turn(order) {
         let incoming = asked.recalled(clock.stamp, order);

@@ -32,7 +32,7 @@ fn wants_all(validity: Validity) -> bool
 
 // Whether reach falls short of what the entry wants at once.
 fn is_short<B: Book>(book: &B, asked: Asked, order: Order) -> bool
-    ensures { result ≡ short asked order (queues book.now) }
+    ensures { result ≡ short asked order (B.queues book.now) }
 {
     let all = wants_all(asked.validity);
     if asked.minimum == 0 && !all {
@@ -50,7 +50,7 @@ fn come_in<B: Book>(
     asked: Asked,
     price: Price,
 ) -> Option<Order>
-    ensures { floor (queues book.now) tape.new clock.new result ≡ happen (judged asked (order_from asked price clock.old.stamp) (queues book.now)) (floor (queues book.now) tape.old clock.old None) }
+    ensures { floor (B.queues book.now) tape.new clock.new result ≡ happen (judged asked (order_from asked price clock.old.stamp) (B.queues book.now)) (floor (B.queues book.now) tape.old clock.old None) }
 {
     let order = asked.order(price, clock.draw());
     tape.write(Line::Entered {
@@ -92,7 +92,7 @@ fn park<B: Book>(
     limit: Price,
     trigger: Price,
 )
-    ensures { floor (queues book.new) tape.new clock.new None ≡ happen (arrival_as (StopLimit limit trigger) asked clock.old.stamp (queues book.old)) (floor (queues book.old) tape.old clock.old None) }
+    ensures { floor (B.queues book.new) tape.new clock.new None ≡ happen (arrival_as (StopLimit limit trigger) asked clock.old.stamp (B.queues book.old)) (floor (B.queues book.old) tape.old clock.old None) }
 {
     let order = asked.order(limit, clock.draw());
     tape.write(Line::Entered {
@@ -110,7 +110,7 @@ fn park<B: Book>(
 
 // The entry is written, and waits, is turned away or comes into the hand.
 fn arrive<B: Book>(book: &mut B, tape: &mut Tape, clock: &mut Clock, asked: Asked) -> Option<Order>
-    ensures { floor (queues book.new) tape.new clock.new result ≡ happen (arrival asked clock.old.stamp (queues book.old)) (floor (queues book.old) tape.old clock.old None) }
+    ensures { floor (B.queues book.new) tape.new clock.new result ≡ happen (arrival asked clock.old.stamp (B.queues book.old)) (floor (B.queues book.old) tape.old clock.old None) }
 {
     match asked.kind {
         Kind::Limit(price) => come_in(book, tape, clock, asked, price),
@@ -130,7 +130,7 @@ fn arrive<B: Book>(book: &mut B, tape: &mut Tape, clock: &mut Clock, asked: Aske
 
 // An entry: it comes in, trades, and the stops that it makes ripe do too.
 pub fn enter<B: Book>(book: &mut B, tape: &mut Tape, clock: &mut Clock, asked: Asked)
-    ensures { floor (queues book.new) tape.new clock.new None ≡ enter asked (floor (queues book.old) tape.old clock.old None) }
+    ensures { floor (B.queues book.new) tape.new clock.new None ≡ enter asked (floor (B.queues book.old) tape.old clock.old None) }
 {
     let hand = arrive(book, tape, clock, asked);
     settle(book, tape, clock, hand);

@@ -27,7 +27,7 @@ pub fn is_ripe(side: Side, last: Option<Price>, trigger: Price) -> bool
 
 // A side's first stop, if it is ripe.
 fn ripe_first<B: Book>(book: &B, side: Side, last: Option<Price>) -> Option<Stop>
-    ensures { result ≡ if_ripe side last (first_stop side (queues book.now)) }
+    ensures { result ≡ if_ripe side last (first_stop side (B.queues book.now)) }
 {
     match stop_in(book.look(Queue::Stops(side), 0)) {
         Some(x) => {
@@ -43,7 +43,7 @@ fn ripe_first<B: Book>(book: &B, side: Side, last: Option<Price>) -> Option<Stop
 
 // The ripe first of the two queues with the lower turn.
 pub fn next_ripe<B: Book>(book: &B, last: Option<Price>) -> Option<(Side, Stop)>
-    ensures { result ≡ next_stop last (queues book.now) }
+    ensures { result ≡ next_stop last (B.queues book.now) }
 {
     let buy = ripe_first(book, Side::Buy, last);
     let sell = ripe_first(book, Side::Sell, last);
@@ -67,7 +67,7 @@ pub fn next_ripe<B: Book>(book: &B, last: Option<Price>) -> Option<(Side, Stop)>
 
 // The first stop of a side leaves its queue, draws a new turn and comes in.
 pub fn fire<B: Book>(book: &mut B, tape: &mut Tape, clock: &mut Clock, side: Side, x: Stop) -> Order
-    ensures { floor (queues book.new) tape.new clock.new (Some result) ≡ happen (fires side x) (floor (queues book.old) tape.old clock.old None) }
+    ensures { floor (B.queues book.new) tape.new clock.new (Some result) ≡ happen (fires side x) (floor (B.queues book.old) tape.old clock.old None) }
 {
     let _ = book.take(Queue::Stops(side), 0);
     tape.write(Line::Released {

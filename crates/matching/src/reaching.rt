@@ -55,7 +55,7 @@ fn shown_at(r: Order, price: Price) -> u32
 
 // How many orders stand opposite.
 fn opposite_count<B: Book>(book: &B, order: Order) -> usize
-    ensures told { result ≡ length (at (other order.side) (queues book.now).stands) }
+    ensures told { result ≡ length (at (other order.side) (B.queues book.now).stands) }
     ensures small { result ≤ 1000000 }
 {
     let size = book.size(Queue::Orders(order.side.other()));
@@ -64,14 +64,14 @@ fn opposite_count<B: Book>(book: &B, order: Order) -> usize
 
 // The opposite order at a place.
 fn opposite_at<B: Book>(book: &B, order: Order, place: usize) -> Option<Order>
-    ensures { result ≡ slice_get (at (other order.side) (queues book.now).stands) place }
+    ensures { result ≡ slice_get (at (other order.side) (B.queues book.now).stands) place }
 {
     order_in(book.look(Queue::Orders(order.side.other()), place))
 }
 
 // The price of the first opposite order within the limit that has the incoming investor.
 fn own_price<B: Book>(book: &B, order: Order) -> Option<Price>
-    ensures { result ≡ own_price order (at (other order.side) (queues book.now).stands) }
+    ensures { result ≡ own_price order (at (other order.side) (B.queues book.now).stands) }
 {
     for place in 0..opposite_count(book, order) {
         let Some(r) = opposite_at(book, order, place) else {
@@ -87,7 +87,7 @@ fn own_price<B: Book>(book: &B, order: Order) -> Option<Price>
 // The open lots that count.
 fn open_lots<B: Book>(book: &B, order: Order, price: Option<Price>) -> u64
     ensures small { result ≤ 1000000 * 1000000 }
-    ensures told { result ≡ open_lots order price (at (other order.side) (queues book.now).stands) }
+    ensures told { result ≡ open_lots order price (at (other order.side) (B.queues book.now).stands) }
 {
     let mut lots: u64 = 0;
     for place in 0..opposite_count(book, order) {
@@ -102,7 +102,7 @@ fn open_lots<B: Book>(book: &B, order: Order, price: Option<Price>) -> u64
 // The shown lots at a price ahead of the first opposite order that has the incoming investor.
 fn shown_ahead<B: Book>(book: &B, order: Order, price: Price) -> u64
     ensures small { result ≤ 1000000 * 1000000 }
-    ensures told { result ≡ shown_ahead order price (at (other order.side) (queues book.now).stands) }
+    ensures told { result ≡ shown_ahead order price (at (other order.side) (B.queues book.now).stands) }
 {
     let mut lots: u64 = 0;
     for place in 0..opposite_count(book, order) {
@@ -118,7 +118,7 @@ fn shown_ahead<B: Book>(book: &B, order: Order, price: Price) -> u64
 }
 
 pub fn reach<B: Book>(book: &B, order: Order) -> u64
-    ensures { result ≡ reach order (at (other order.side) (queues book.now).stands) }
+    ensures { result ≡ reach order (at (other order.side) (B.queues book.now).stands) }
 {
     let price = own_price(book, order);
     let open = open_lots(book, order, price);

@@ -22,7 +22,7 @@ pub fn pull<B: Book>(
     at: usize,
     record: Record,
 )
-    ensures { (c : Numbers) → floor (queues book.new) tape.new c None ≡ happen (pulls cause queue at «record») (floor (queues book.old) tape.old c None) }
+    ensures { (c : Numbers) → floor (B.queues book.new) tape.new c None ≡ happen (pulls cause queue at «record») (floor (B.queues book.old) tape.old c None) }
 {
     let _ = book.take(queue, at);
     tape.write(cancelled(record.order(), cause));
@@ -30,7 +30,7 @@ pub fn pull<B: Book>(
 
 // Along a queue, what is picked is pulled and what is not is passed.
 fn sweep<B: Book>(book: &mut B, tape: &mut Tape, pick: Pick, cause: Cause, queue: Queue)
-    ensures { (c : Numbers) → floor (queues book.new) tape.new c None ≡ swept pick cause queue (floor (queues book.old) tape.old c None) }
+    ensures { (c : Numbers) → floor (B.queues book.new) tape.new c None ≡ swept pick cause queue (floor (B.queues book.old) tape.old c None) }
 {
     let size = book.size(queue);
     let mut at: usize = 0;
@@ -48,7 +48,7 @@ fn sweep<B: Book>(book: &mut B, tape: &mut Tape, pick: Pick, cause: Cause, queue
 
 // All that is picked is removed, in the order of the four queues.
 pub fn remove<B: Book>(book: &mut B, tape: &mut Tape, pick: Pick, cause: Cause)
-    ensures { (c : Numbers) → floor (queues book.new) tape.new c None ≡ removals pick cause (floor (queues book.old) tape.old c None) }
+    ensures { (c : Numbers) → floor (B.queues book.new) tape.new c None ≡ removals pick cause (floor (B.queues book.old) tape.old c None) }
 {
     sweep(book, tape, pick, cause, Queue::Orders(Side::Buy));
     sweep(book, tape, pick, cause, Queue::Orders(Side::Sell));

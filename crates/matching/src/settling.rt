@@ -13,7 +13,7 @@ use tapes::tape::Tape;
 
 // The incoming order trades, then each ripe stop in turn does.
 pub fn settle<B: Book>(book: &mut B, tape: &mut Tape, clock: &mut Clock, incoming: Option<Order>)
-    ensures { floor (queues book.new) tape.new clock.new None ≡ settled (floor (queues book.old) tape.old clock.old incoming) }
+    ensures { floor (B.queues book.new) tape.new clock.new None ≡ settled (floor (B.queues book.old) tape.old clock.old incoming) }
 {
     let mut hand = incoming;
     'stops: loop {

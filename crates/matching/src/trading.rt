@@ -30,7 +30,7 @@ pub fn cancelled(order: Order, cause: Cause) -> Line
 
 // The order that stands first on a side.
 pub fn first_order<B: Book>(book: &B, side: Side) -> Option<Order>
-    ensures { result ≡ first_order side (queues book.now) }
+    ensures { result ≡ first_order side (B.queues book.now) }
 {
     order_in(book.look(Queue::Orders(side), 0))
 }
@@ -47,14 +47,14 @@ fn left_of(order: Order, lots: u32) -> Option<Order>
 
 // An order goes back into its queue.
 fn put_back<B: Book>(book: &mut B, order: Order)
-    ensures { queues book.new ≡ put_back order (queues book.old) }
+    ensures { B.queues book.new ≡ put_back order (B.queues book.old) }
 {
     let _ = book.put(Record::Standing(order));
 }
 
 // The first order of a side after a trade: it leaves, shows again behind its price, or stays first.
 fn rest_after<B: Book>(book: &mut B, clock: &mut Clock, side: Side, resting: Order, lots: u32)
-    ensures queues { queues book.new ≡ met (fate lots resting) side lots clock.old.stamp resting (queues book.old) }
+    ensures queues { B.queues book.new ≡ met (fate lots resting) side lots clock.old.stamp resting (B.queues book.old) }
     ensures clock { clock.new ≡ drawn_by (fate lots resting) clock.old }
 {
     if resting.leaves == lots {
@@ -76,7 +76,7 @@ pub fn trade_once<B: Book>(
     incoming: Order,
     resting: Order,
 ) -> Option<Order>
-    ensures { floor (queues book.new) tape.new clock.new result ≡ happen (trades incoming resting) (floor (queues book.old) tape.old clock.old (Some incoming)) }
+    ensures { floor (B.queues book.new) tape.new clock.new result ≡ happen (trades incoming resting) (floor (B.queues book.old) tape.old clock.old (Some incoming)) }
 {
     let lots = incoming.leaves.min(resting.shown);
     tape.write(Line::Traded {
@@ -92,7 +92,7 @@ pub fn trade_once<B: Book>(
 
 // What becomes of an order that trades no more: it stands, or is cancelled.
 pub fn leave<B: Book>(book: &mut B, tape: &mut Tape, order: Order)
-    ensures { (c : Numbers) → floor (queues book.new) tape.new c None ≡ happen (leftover order (queues book.old)) (floor (queues book.old) tape.old c (Some order)) }
+    ensures { (c : Numbers) → floor (B.queues book.new) tape.new c None ≡ happen (leftover order (B.queues book.old)) (floor (B.queues book.old) tape.old c (Some order)) }
 {
     if order.validity.is_fleeting() {
         tape.write(cancelled(order, Cause::Leftover));

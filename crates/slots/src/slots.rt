@@ -64,7 +64,7 @@ pub fn find_in<T: Ranked + Copy>(slots: &[Option<T>], number: u32) -> Option<usi
 
 // Where a rank belongs: behind the records that it is not before, in the middle of the free slots there.
 pub fn gap_of<T: Ranked + Copy>(slots: &[Option<T>], rank: Rank) -> usize
-    ensures is { length (held (take result slots.now)) ≡ place_of place rank (held slots.now) }
+    ensures is { length (held (take result slots.now)) ≡ place_of T.Ranked.place rank (held slots.now) }
     ensures within { result ≤ length slots.now }
 {
     let mut from = 0;

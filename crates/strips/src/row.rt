@@ -114,7 +114,7 @@ fn write_in<T: Copy>(rows: &mut [T], at: usize, x: T)
 // x goes in among the first n, which are in rank order; what stood at n is lost.
 fn insert_in<T: Ranked + Copy>(rows: &mut [T], n: usize, x: T)
     requires { n < length rows.old }
-    ensures { take (n + 1) rows.new ≡ put_in place x (take n rows.old) }
+    ensures { take (n + 1) rows.new ≡ put_in T.Ranked.place x (take n rows.old) }
 {
     let at = place_of(&rows[0..n], x.rank());
     shift_in(&mut rows[at..n + 1], x);
@@ -147,7 +147,7 @@ fn close_up<T>(part: &mut [T])
 
 // The place of the first record that a rank is before, or the row's end.
 fn place_of<T: Ranked>(rows: &[T], rank: Rank) -> usize
-    ensures is { result ≡ place_of place rank rows.now }
+    ensures is { result ≡ place_of T.Ranked.place rank rows.now }
     ensures within { result ≤ length rows.now }
 {
     for (i, x) in rows.iter().enumerate() {

@@ -62,7 +62,7 @@ fn change_told<B: Book>(
     clock: Clock,
     form: ChangeForm,
 ) -> Result<Plan, Refusal>
-    ensures { result ≡ change_told form (floor (queues book.now) tape.now clock None) }
+    ensures { result ≡ change_told form (floor (B.queues book.now) tape.now clock None) }
 {
     let asked = read_change(form)?;
     lines_free(book, tape)?;
@@ -80,8 +80,8 @@ impl OpenDay {
         tape: &mut Tape,
         form: ChangeForm,
     ) -> (OpenDay, Result<(), Refusal>)
-        ensures told { result.1 ≡ answer (ChangeRow form) (state (queues book.old) tape.old (Open self)) }
-        ensures left { state (queues book.new) tape.new (Open result.0) ≡ step (ChangeRow form) (state (queues book.old) tape.old (Open self)) }
+        ensures told { result.1 ≡ answer (ChangeRow form) (state (B.queues book.old) tape.old (Open self)) }
+        ensures left { state (B.queues book.new) tape.new (Open result.0) ≡ step (ChangeRow form) (state (B.queues book.old) tape.old (Open self)) }
     {
         let OpenDay { day, mut clock } = self;
         match change_told(book, tape, clock, form) {

@@ -23,7 +23,7 @@ impl OpenDay {
         book: &mut B,
         tape: &mut Tape,
     ) -> Result<ClosedDay, (OpenDay, Refusal)>
-        ensures { Closes self (queues book.old) tape.old result (queues book.new) tape.new }
+        ensures { Closes self (B.queues book.old) tape.old result (B.queues book.new) tape.new }
     {
         if let Err(refusal) = lines_free(book, tape) {
             return Err((self, refusal));
@@ -36,7 +36,7 @@ impl OpenDay {
 
 // The day that a form opens after a day, or why it is refused.
 fn opening_told<B: Book>(book: &B, tape: &Tape, day: u16, form: OpeningForm) -> Result<u16, Refusal>
-    ensures { result ≡ opening_told form day (queues book.now) (reel tape.now) }
+    ensures { result ≡ opening_told form day (B.queues book.now) (reel tape.now) }
 {
     let next = read_opening(form)?;
     lines_free(book, tape)?;
@@ -55,7 +55,7 @@ impl ClosedDay {
         tape: &Tape,
         form: OpeningForm,
     ) -> Result<OpenDay, (ClosedDay, Refusal)>
-        ensures { Opens form self (queues book.now) tape.now result }
+        ensures { Opens form self (B.queues book.now) tape.now result }
     {
         match opening_told(book, tape, self.day, form) {
             Ok(day) => {

@@ -25,7 +25,7 @@ fn entry_told<B: Book>(
     clock: Clock,
     form: EntryForm,
 ) -> Result<Asked, Refusal>
-    ensures { result ≡ entry_told form (floor (queues book.now) tape.now clock None) }
+    ensures { result ≡ entry_told form (floor (B.queues book.now) tape.now clock None) }
 {
     let asked = read_entry(form)?;
     lines_free(book, tape)?;
@@ -42,8 +42,8 @@ impl OpenDay {
         tape: &mut Tape,
         form: EntryForm,
     ) -> (OpenDay, Result<(), Refusal>)
-        ensures told { result.1 ≡ answer (Entry form) (state (queues book.old) tape.old (Open self)) }
-        ensures left { state (queues book.new) tape.new (Open result.0) ≡ step (Entry form) (state (queues book.old) tape.old (Open self)) }
+        ensures told { result.1 ≡ answer (Entry form) (state (B.queues book.old) tape.old (Open self)) }
+        ensures left { state (B.queues book.new) tape.new (Open result.0) ≡ step (Entry form) (state (B.queues book.old) tape.old (Open self)) }
     {
         let OpenDay { day, mut clock } = self;
         match entry_told(book, tape, clock, form) {

@@ -34,7 +34,7 @@ fn does_hold(firm: u16, client: u32, except: Option<u32>, order: Order) -> bool
 
 // The order at a place of a queue, that of a stop too.
 fn order_at<B: Book>(book: &B, queue: Queue, place: usize) -> Option<Order>
-    ensures { result ≡ slice_get (orders_in queue (queues book.now)) place }
+    ensures { result ≡ slice_get (orders_in queue (B.queues book.now)) place }
 {
     match book.look(queue, place) {
         Some(record) => Some(record.order()),
@@ -44,7 +44,7 @@ fn order_at<B: Book>(book: &B, queue: Queue, place: usize) -> Option<Order>
 
 // Whether another record of a queue holds the firm's client number.
 fn held_in<B: Book>(book: &B, firm: u16, client: u32, except: Option<u32>, queue: Queue) -> bool
-    ensures { result ≡ held_in firm client except queue (queues book.now) }
+    ensures { result ≡ held_in firm client except queue (B.queues book.now) }
 {
     let size = book.size(queue);
     for place in 0..size.0 {
@@ -59,7 +59,7 @@ fn held_in<B: Book>(book: &B, firm: u16, client: u32, except: Option<u32>, queue
 }
 
 fn is_client_held<B: Book>(book: &B, firm: u16, client: u32, except: Option<u32>) -> bool
-    ensures { result ≡ client_held firm client except (queues book.now) }
+    ensures { result ≡ client_held firm client except (B.queues book.now) }
 {
     held_in(book, firm, client, except, Queue::Orders(Side::Buy))
         || held_in(book, firm, client, except, Queue::Orders(Side::Sell))
@@ -73,7 +73,7 @@ pub fn client_free<B: Book>(
     client: u32,
     except: Option<u32>,
 ) -> Result<(), Refusal>
-    ensures { result ≡ client_free firm client except (queues book.now) }
+    ensures { result ≡ client_free firm client except (B.queues book.now) }
 {
     if is_client_held(book, firm, client, except) {
         Err(Refusal::ClientHeld)
@@ -84,7 +84,7 @@ pub fn client_free<B: Book>(
 
 // The firm's order or stop of a number.
 pub fn known<B: Book>(book: &B, firm: u16, number: u32) -> Result<Found, Refusal>
-    ensures { result ≡ known firm number (queues book.now) }
+    ensures { result ≡ known firm number (B.queues book.now) }
 {
     let Some((queue, at)) = book.find(number) else {
         return Err(Refusal::UnknownOrder);

@@ -19,7 +19,7 @@ use tapes::cause::Cause;
 use tapes::tape::Tape;
 
 fn cancel_told<B: Book>(book: &B, tape: &Tape, form: CancelForm) -> Result<Found, Refusal>
-    ensures { result ≡ cancel_told form (queues book.now) (reel tape.now) }
+    ensures { result ≡ cancel_told form (B.queues book.now) (reel tape.now) }
 {
     let asked = read_cancel(form)?;
     lines_free(book, tape)?;
@@ -27,7 +27,7 @@ fn cancel_told<B: Book>(book: &B, tape: &Tape, form: CancelForm) -> Result<Found
 }
 
 fn mass_told<B: Book>(book: &B, tape: &Tape, form: MassCancelForm) -> Result<Wanted, Refusal>
-    ensures { result ≡ mass_told form (queues book.now) (reel tape.now) }
+    ensures { result ≡ mass_told form (B.queues book.now) (reel tape.now) }
 {
     let wanted = read_mass_cancel(form)?;
     lines_free(book, tape)?;
@@ -42,8 +42,8 @@ impl OpenDay {
         tape: &mut Tape,
         form: CancelForm,
     ) -> (OpenDay, Result<(), Refusal>)
-        ensures told { result.1 ≡ answer (Cancel form) (state (queues book.old) tape.old (Open self)) }
-        ensures left { state (queues book.new) tape.new (Open result.0) ≡ step (Cancel form) (state (queues book.old) tape.old (Open self)) }
+        ensures told { result.1 ≡ answer (Cancel form) (state (B.queues book.old) tape.old (Open self)) }
+        ensures left { state (B.queues book.new) tape.new (Open result.0) ≡ step (Cancel form) (state (B.queues book.old) tape.old (Open self)) }
     {
         match cancel_told(book, tape, form) {
             Ok(found) => {
@@ -68,8 +68,8 @@ impl OpenDay {
         tape: &mut Tape,
         form: MassCancelForm,
     ) -> (OpenDay, Result<(), Refusal>)
-        ensures told { result.1 ≡ answer (MassCancel form) (state (queues book.old) tape.old (Open self)) }
-        ensures left { state (queues book.new) tape.new (Open result.0) ≡ step (MassCancel form) (state (queues book.old) tape.old (Open self)) }
+        ensures told { result.1 ≡ answer (MassCancel form) (state (B.queues book.old) tape.old (Open self)) }
+        ensures left { state (B.queues book.new) tape.new (Open result.0) ≡ step (MassCancel form) (state (B.queues book.old) tape.old (Open self)) }
     {
         match mass_told(book, tape, form) {
             Ok(wanted) => {

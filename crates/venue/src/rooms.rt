@@ -13,7 +13,7 @@ use tapes::tape::Tape;
 
 // How many records a queue holds.
 fn count<B: Book>(book: &B, queue: Queue) -> usize
-    ensures told { result ≡ count queue (queues book.now) }
+    ensures told { result ≡ count queue (B.queues book.now) }
     ensures small { result ≤ 1000000 }
 {
     let size = book.size(queue);
@@ -22,7 +22,7 @@ fn count<B: Book>(book: &B, queue: Queue) -> usize
 
 // Twenty lines or stamps for each record and one more.
 fn needed<B: Book>(book: &B) -> usize
-    ensures { result ≡ needed (queues book.now) }
+    ensures { result ≡ needed (B.queues book.now) }
 {
     let bids = count(book, Queue::Orders(Side::Buy));
     let offers = count(book, Queue::Orders(Side::Sell));
@@ -32,7 +32,7 @@ fn needed<B: Book>(book: &B) -> usize
 }
 
 pub fn lines_free<B: Book>(book: &B, tape: &Tape) -> Result<(), Refusal>
-    ensures { result ≡ lines_free (queues book.now) (reel tape.now) }
+    ensures { result ≡ lines_free (B.queues book.now) (reel tape.now) }
 {
     if tape.free() < needed(book) {
         Err(Refusal::TapeFull)
@@ -42,7 +42,7 @@ pub fn lines_free<B: Book>(book: &B, tape: &Tape) -> Result<(), Refusal>
 }
 
 pub fn stamps_free<B: Book>(book: &B, clock: Clock) -> Result<(), Refusal>
-    ensures { result ≡ stamps_free (queues book.now) clock }
+    ensures { result ≡ stamps_free (B.queues book.now) clock }
 {
     if (clock.undrawn() as usize) < needed(book) {
         Err(Refusal::NoStamps)

@@ -11,7 +11,7 @@ use tapes::tape::Tape;
 
 // Day 0 counts as day 1, and stamp 0 as stamp 1.
 pub fn set_up<B: Book>(book: &mut B, tape: &mut Tape, day: u16, stamp: u32) -> OpenDay
-    ensures { state (queues book.new) tape.new (Open result) ≡ set_up day stamp (queues book.old) (reel tape.old).limit }
+    ensures { state (B.queues book.new) tape.new (Open result) ≡ set_up day stamp (B.queues book.old) (reel tape.old).limit }
 {
     book.clear();
     tape.clear();

@@ -19,8 +19,8 @@ fn step_open<B: Book>(
     tape: &mut Tape,
     form: Form,
 ) -> (Day, Result<(), Refusal>)
-    ensures told { result.1 ≡ answer form (state (queues book.old) tape.old (Open «open»)) }
-    ensures left { state (queues book.new) tape.new result.0 ≡ step form (state (queues book.old) tape.old (Open «open»)) }
+    ensures told { result.1 ≡ answer form (state (B.queues book.old) tape.old (Open «open»)) }
+    ensures left { state (B.queues book.new) tape.new result.0 ≡ step form (state (B.queues book.old) tape.old (Open «open»)) }
 {
     match form {
         Form::Entry(form) => {
@@ -82,8 +82,8 @@ fn step_closed<B: Book>(
     tape: &Tape,
     form: Form,
 ) -> (Day, Result<(), Refusal>)
-    ensures told { result.1 ≡ answer form (state (queues book.now) tape.now (Closed closed)) }
-    ensures left { state (queues book.now) tape.now result.0 ≡ step form (state (queues book.now) tape.now (Closed closed)) }
+    ensures told { result.1 ≡ answer form (state (B.queues book.now) tape.now (Closed closed)) }
+    ensures left { state (B.queues book.now) tape.now result.0 ≡ step form (state (B.queues book.now) tape.now (Closed closed)) }
 {
     match form {
         Form::Opening(form) => match closed.open(book, tape, form) {
@@ -103,8 +103,8 @@ impl Day {
         tape: &mut Tape,
         form: Form,
     ) -> (Day, Result<(), Refusal>)
-        ensures told { result.1 ≡ answer form (state (queues book.old) tape.old self) }
-        ensures left { state (queues book.new) tape.new result.0 ≡ step form (state (queues book.old) tape.old self) }
+        ensures told { result.1 ≡ answer form (state (B.queues book.old) tape.old self) }
+        ensures left { state (B.queues book.new) tape.new result.0 ≡ step form (state (B.queues book.old) tape.old self) }
     {
         match self {
             Day::Open(open) => step_open(open, book, tape, form),

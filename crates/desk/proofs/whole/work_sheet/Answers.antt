@@ -12,9 +12,9 @@ use Rattle.desk.proofs.whole.work_sheet.Goals as goal
 pub loop-drawn-preserved : goal.loop-drawn-preserved
 loop-drawn-preserved g c =
     let before = desk (state (g.B.Book.queues c.loop-drawn.book) c.loop-drawn.tape c.loop-drawn.day) c.loop-drawn.replies in
-    let after = desk (state (g.B.Book.queues c.work-row-day.new.book) c.work-row-day.new.tape c.work-row-day.result) c.work-row-day.new.replies in
+    let after = desk (state (g.B.Book.queues c.work_row-day.new.book) c.work_row-day.new.tape c.work_row-day.result) c.work_row-day.new.replies in
     ap (λ (s : Sheet). worked s after) c.draw.ensures.left
-    ∙ ap (λ (d : Desk). worked (moved_on c.loop-drawn.sheet) d) c.work-row-day.ensures
+    ∙ ap (λ (d : Desk). worked (moved_on c.loop-drawn.sheet) d) c.work_row-day.ensures
     ∙ a_row c.loop-drawn.sheet c.in-Some.drawn before c.in-Some.ensures.told
     ∙ c.loop-drawn.invariant
 
@@ -26,7 +26,7 @@ returns g c =
     record {
       told = sym (ap (option_map sheet_reply) admitted.0);
       left =
-          no_row c.loop-drawn.sheet _ c.in-default.ensures.told
+          no_row c.loop-drawn.sheet _ c.in_default.ensures.told
           ∙ c.loop-drawn.invariant
           ∙ from_the_first bytes c.in-Ok.sheet before admitted.1
           ∙ sym (ap (λ (m : Option Refusal). rows_unless m bytes before) admitted.0);

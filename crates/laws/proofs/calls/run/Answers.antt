@@ -29,7 +29,7 @@ returns g c =
       left =
           sym (no_step c.args.forms.now c.loop-form.form-index (state (g.B.Book.queues c.loop-form.book) c.loop-form.tape c.loop-form.current) c.loop-form-test.false)
           ∙ c.loop-form.invariant.1
-          ∙ ap (λ (x : State). after c.args.forms.now x) c.set-up-current.ensures.left;
+          ∙ ap (λ (x : State). after c.args.forms.now x) c.set_up-current.ensures.left;
       lawful = always_lawful c.args.forms.now s t k m;
       fair = always_fair c.args.forms.now s t k m;
     }

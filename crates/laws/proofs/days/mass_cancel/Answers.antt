@@ -6,7 +6,7 @@ use Rattle.laws.proofs.days.mass_cancel.Goals as goal
 
 pub returns : goal.returns
 returns g c = record {
-  told = c.mass-cancel.ensures.told;
-  left = c.mass-cancel.ensures.left;
+  told = c.mass_cancel.ensures.told;
+  left = c.mass_cancel.ensures.left;
   upheld = upheld (MassCancel c.args.form) (state (g.B.Book.queues c.args.book.now) c.args.tape.now (Open c.args.day));
 }

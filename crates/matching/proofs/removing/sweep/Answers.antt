@@ -18,9 +18,9 @@ none_off n = omega arith
 pub loop-turn-init : goal.loop-turn-init
 loop-turn-init g c = (λ d. ap (λ k. sweep k c.args.pick c.args.cause c.args.queue 0 (floor (g.B.Book.queues c.args.book.now) c.args.tape.now d None)) (none_off c.size-size.result.0), omega arith)
 
-pub returns-in-default : goal.returns-in-default
-returns-in-default g c d =
-    sym (at_end (c.size-size.result.0 - c.loop-turn.-turn) c.args.pick c.args.cause c.args.queue c.loop-turn.at _ (sym c.look.ensures ∙ c.in-default.is))
+pub returns-in_default : goal.returns-in_default
+returns-in_default g c d =
+    sym (at_end (c.size-size.result.0 - c.loop-turn.-turn) c.args.pick c.args.cause c.args.queue c.loop-turn.at _ (sym c.look.ensures ∙ c.in_default.is))
     ∙ c.loop-turn.invariant.0 d
     ∙ ap (λ k. sweep k c.args.pick c.args.cause c.args.queue 0 (floor (g.B.Book.queues c.args.book.now) c.args.tape.now d None)) (whole _ _ _ c.size-size.ensures)
 

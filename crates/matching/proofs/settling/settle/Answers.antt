@@ -17,18 +17,18 @@ trading-init g c = at_first _
 after_leave : (g : given.Over) (c : goal.After-leave g) → Turn (floor (g.B.Book.queues c.trading.book) c.trading.tape c.trading.clock c.trading.hand) (floor (g.B.Book.queues c.leave.new.book) c.leave.new.tape c.trading.clock None)
 after_leave g c =
     nobody (g.B.Book.queues c.trading.book) c.trading.tape c.trading.clock c.trading.hand c.in-Some.order c.other.result c.first_order.result _
-    c.in-Some.is c.other.ensures c.first_order.ensures c.in-default-first-order.is (c.leave.ensures c.trading.clock)
+    c.in-Some.is c.other.ensures c.first_order.ensures c.in_default-first_order.is (c.leave.ensures c.trading.clock)
 
-pub trading-smaller-in-default-first-order : goal.trading-smaller-in-default-first-order
-trading-smaller-in-default-first-order g c = (after_leave g c).less_left
+pub trading-smaller-in_default-first_order : goal.trading-smaller-in_default-first_order
+trading-smaller-in_default-first_order g c = (after_leave g c).less_left
 
-pub trading-preserved-in-default-first-order : goal.trading-preserved-in-default-first-order
-trading-preserved-in-default-first-order g c = onward _ _ _ c.trading.invariant (after_leave g c)
+pub trading-preserved-in_default-first_order : goal.trading-preserved-in_default-first_order
+trading-preserved-in_default-first_order g c = onward _ _ _ c.trading.invariant (after_leave g c)
 
 after_beyond : (g : given.Over) (c : goal.After-leave-then-not-takes g) → Turn (floor (g.B.Book.queues c.trading.book) c.trading.tape c.trading.clock c.trading.hand) (floor (g.B.Book.queues c.leave-then-not-takes.new.book) c.leave-then-not-takes.new.tape c.trading.clock None)
 after_beyond g c =
     beyond (g.B.Book.queues c.trading.book) c.trading.tape c.trading.clock c.trading.hand c.in-Some.order c.other.result c.first_order.result _
-    c.in-Some.is c.other.ensures c.first_order.ensures c.in-Some-first-order.first c.in-Some-first-order.is c.if-not-takes.ensures (c.leave-then-not-takes.ensures c.trading.clock)
+    c.in-Some.is c.other.ensures c.first_order.ensures c.in-Some-first_order.first c.in-Some-first_order.is c.if-not-takes.ensures (c.leave-then-not-takes.ensures c.trading.clock)
 
 pub trading-smaller-then-not-takes : goal.trading-smaller-then-not-takes
 trading-smaller-then-not-takes g c = (after_beyond g c).less_left
@@ -40,18 +40,18 @@ after_own : (g : given.Over) (c : goal.After-write g) → Turn (floor (g.B.Book.
 after_own g c =
     let on : Reel → Floor = λ r. record { queues = g.B.Book.queues c.trading.book; hand = None; reel = r; clock = c.trading.clock } in
     own (g.B.Book.queues c.trading.book) c.trading.tape c.trading.clock c.trading.hand c.in-Some.order c.other.result c.first_order.result _
-    c.in-Some.is c.other.ensures c.first_order.ensures c.in-Some-first-order.first c.in-Some-first-order.is c.if-not-takes.ensures c.if-has-investor-of.ensures (ap on (c.write.ensures ∙ ap (λ (l : Line). written l (reel c.trading.tape)) c.cancelled.ensures))
+    c.in-Some.is c.other.ensures c.first_order.ensures c.in-Some-first_order.first c.in-Some-first_order.is c.if-not-takes.ensures c.if-has_investor_of.ensures (ap on (c.write.ensures ∙ ap (λ (l : Line). written l (reel c.trading.tape)) c.cancelled.ensures))
 
-pub stops-smaller-then-has-investor-of : goal.stops-smaller-then-has-investor-of
-stops-smaller-then-has-investor-of g c = fewer _ _ _ c.trading.invariant (after_own g c)
+pub stops-smaller-then-has_investor_of : goal.stops-smaller-then-has_investor_of
+stops-smaller-then-has_investor_of g c = fewer _ _ _ c.trading.invariant (after_own g c)
 
-pub stops-preserved-then-has-investor-of : goal.stops-preserved-then-has-investor-of
-stops-preserved-then-has-investor-of g c = further _ _ _ _ c.stops.invariant c.trading.invariant (after_own g c)
+pub stops-preserved-then-has_investor_of : goal.stops-preserved-then-has_investor_of
+stops-preserved-then-has_investor_of g c = further _ _ _ _ c.stops.invariant c.trading.invariant (after_own g c)
 
-after_trade : (g : given.Over) (c : goal.After-trade-once-hand g) → Turn (floor (g.B.Book.queues c.trading.book) c.trading.tape c.trading.clock c.trading.hand) (floor (g.B.Book.queues c.trade-once-hand.new.book) c.trade-once-hand.new.tape c.trade-once-hand.new.clock c.trade-once-hand.result)
+after_trade : (g : given.Over) (c : goal.After-trade_once-hand g) → Turn (floor (g.B.Book.queues c.trading.book) c.trading.tape c.trading.clock c.trading.hand) (floor (g.B.Book.queues c.trade_once-hand.new.book) c.trade_once-hand.new.tape c.trade_once-hand.new.clock c.trade_once-hand.result)
 after_trade g c =
     trade (g.B.Book.queues c.trading.book) c.trading.tape c.trading.clock c.trading.hand c.in-Some.order c.other.result c.first_order.result _
-    c.in-Some.is c.other.ensures c.first_order.ensures c.in-Some-first-order.first c.in-Some-first-order.is c.if-not-takes.ensures c.if-has-investor-of.ensures c.trade-once-hand.ensures
+    c.in-Some.is c.other.ensures c.first_order.ensures c.in-Some-first_order.first c.in-Some-first_order.is c.if-not-takes.ensures c.if-has_investor_of.ensures c.trade_once-hand.ensures
 
 pub trading-smaller : goal.trading-smaller
 trading-smaller g c = (after_trade g c).less_left
@@ -61,8 +61,8 @@ trading-preserved g c = onward _ _ _ c.trading.invariant (after_trade g c)
 
 after_fire : (g : given.Over) (c : goal.After-fire g) → Turn (floor (g.B.Book.queues c.trading.book) c.trading.tape c.trading.clock c.trading.hand) (floor (g.B.Book.queues c.fire.new.book) c.fire.new.tape c.fire.new.clock (Some c.fire.result))
 after_fire g c =
-    fired (g.B.Book.queues c.trading.book) c.trading.tape c.trading.clock c.trading.hand c.next-ripe.result c.in-Some-next-ripe.ripe _
-    c.in-default.is c.next-ripe.ensures c.in-Some-next-ripe.is c.fire.ensures
+    fired (g.B.Book.queues c.trading.book) c.trading.tape c.trading.clock c.trading.hand c.next_ripe.result c.in-Some-next_ripe.ripe _
+    c.in_default.is c.next_ripe.ensures c.in-Some-next_ripe.is c.fire.ensures
 
 pub stops-smaller : goal.stops-smaller
 stops-smaller g c = fewer _ _ _ c.trading.invariant (after_fire g c)
@@ -70,7 +70,7 @@ stops-smaller g c = fewer _ _ _ c.trading.invariant (after_fire g c)
 pub stops-preserved : goal.stops-preserved
 stops-preserved g c = further _ _ _ _ c.stops.invariant c.trading.invariant (after_fire g c)
 
-pub returns-in-default-next-ripe : goal.returns-in-default-next-ripe
-returns-in-default-next-ripe g c =
-    at_rest (g.B.Book.queues c.trading.book) c.trading.tape c.trading.clock c.trading.hand c.next-ripe.result c.in-default.is c.next-ripe.ensures c.in-default-next-ripe.is
+pub returns-in_default-next_ripe : goal.returns-in_default-next_ripe
+returns-in_default-next_ripe g c =
+    at_rest (g.B.Book.queues c.trading.book) c.trading.tape c.trading.clock c.trading.hand c.next_ripe.result c.in_default.is c.next_ripe.ensures c.in_default-next_ripe.is
     ∙ c.trading.invariant.same_end ∙ c.stops.invariant.same_end

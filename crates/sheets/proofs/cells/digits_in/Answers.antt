@@ -5,30 +5,30 @@ use Rattle.sheets.specs.Cells.{is_digit}
 use Rattle.sheets.proofs.Digits.{value_step, digit_bounds, grown, under}
 use Rattle.sheets.proofs.cells.digits_in.Goals as goal
 
-pub returns-then-not-is-digit : goal.returns-then-not-is-digit
-returns-then-not-is-digit c = record {
+pub returns-then-not-is_digit : goal.returns-then-not-is_digit
+returns-then-not-is_digit c = record {
   count = omega (
     arith,
     c.loop-i.invariant.0,
     prefix_len-drop_no is_digit c.args.start.now c.loop-i.i 0
-        c.loop-i-test.true (sym c.is-digit.ensures ∙ c.if-not-is-digit.true),
+        c.loop-i-test.true (sym c.is_digit.ensures ∙ c.if-not-is_digit.true),
   );
   number = c.loop-i.invariant.1;
   within = omega arith;
   small = c.loop-i.invariant.2;
 }
 
-pub overflow-mul-number : goal.overflow-mul-number
-overflow-mul-number c = let s = under c.loop-i.number c.loop-i.i 12 (omega arith) c.loop-i.invariant.2 in omega arith
+pub overflow_mul-number : goal.overflow_mul-number
+overflow_mul-number c = let s = under c.loop-i.number c.loop-i.i 12 (omega arith) c.loop-i.invariant.2 in omega arith
 
-pub overflow-add-number : goal.overflow-add-number
-overflow-add-number c = let s = under c.loop-i.number c.loop-i.i 12 (omega arith) c.loop-i.invariant.2 in omega arith
+pub overflow_add-number : goal.overflow_add-number
+overflow_add-number c = let s = under c.loop-i.number c.loop-i.i 12 (omega arith) c.loop-i.invariant.2 in omega arith
 
 pub loop-i-preserved : goal.loop-i-preserved
 loop-i-preserved c =
     let bs = c.args.start.now in
     let i = c.loop-i.i in
-    let d : is_digit (get_or bs i 0) ≡ _ = sym c.is-digit.ensures ∙ c.if-not-is-digit.false in (
+    let d : is_digit (get_or bs i 0) ≡ _ = sym c.is_digit.ensures ∙ c.if-not-is_digit.false in (
       omega (arith, c.loop-i.invariant.0, prefix_len-drop_yes is_digit bs i 0 c.loop-i-test.true d),
       (ap (λ n. c.loop-i.number * 10 + n) c.from.ensures
           ∙ ap (λ v. v * 10 + (get_or bs i 0 - 48)) c.loop-i.invariant.1

@@ -14,5 +14,5 @@ returns-in-len2-up c = record {
   places = cells_told;
 }
 
-pub returns-in-default : goal.returns-in-default
-returns-in-default c = record { told = search rules; rows = row_alone; cells = cell_alone; pairs = pair_rule; places = cells_told }
+pub returns-in_default : goal.returns-in_default
+returns-in_default c = record { told = search rules; rows = row_alone; cells = cell_alone; pairs = pair_rule; places = cells_told }

@@ -9,8 +9,8 @@ returns-then-word-eq0 c =
     record {
       told =
           sym c.loop-turn.invariant.1
-          ∙ no_more _ c.args.letter c.args.line.now c.loop-turn.at c.loop-turn.cells.values c.next-word-word.result n k
-          c.next-word-word.ensures.told c.if-word-eq0.true;
+          ∙ no_more _ c.args.letter c.args.line.now c.loop-turn.at c.loop-turn.cells.values c.next_word-word.result n k
+          c.next_word-word.ensures.told c.if-word-eq0.true;
       within = tt;
     }
 
@@ -21,19 +21,19 @@ returns-in-None c =
     record {
       told =
           sym c.loop-turn.invariant.1
-          ∙ one_more _ c.args.letter c.args.line.now c.loop-turn.at c.loop-turn.cells.values c.next-word-word.result n k
-          c.next-word-word.ensures.told c.if-word-eq0.false c.bytes.result.now None c.bytes.ensures c.in-None.ensures
+          ∙ one_more _ c.args.letter c.args.line.now c.loop-turn.at c.loop-turn.cells.values c.next_word-word.result n k
+          c.next_word-word.ensures.told c.if-word-eq0.false c.bytes.result.now None c.bytes.ensures c.in-None.ensures
           ∙ ap Err (sym c.spoils.ensures);
-      within = lies (length c.args.line.now) c.next-word-word.result c.spoils.result c.spoils.ensures c.if-word-eq0.false c.next-word-word.ensures.within;
+      within = lies (length c.args.line.now) c.next_word-word.result c.spoils.result c.spoils.ensures c.if-word-eq0.false c.next_word-word.ensures.within;
     }
 
 pub loop-turn-preserved : goal.loop-turn-preserved
 loop-turn-preserved c =
     let n = length c.args.line.now - c.loop-turn.turn in
     let k : n ≡ suc (length c.args.line.now - (c.loop-turn.turn + 1)) = omega (arith, c.loop-turn-test.true) in (
-      c.next-word-word.ensures.within,
-      sym (one_more _ c.args.letter c.args.line.now c.loop-turn.at c.loop-turn.cells.values c.next-word-word.result n k
-          c.next-word-word.ensures.told c.if-word-eq0.false c.bytes.result.now (Some c.in-Some.filled.values)
+      c.next_word-word.ensures.within,
+      sym (one_more _ c.args.letter c.args.line.now c.loop-turn.at c.loop-turn.cells.values c.next_word-word.result n k
+          c.next_word-word.ensures.told c.if-word-eq0.false c.bytes.result.now (Some c.in-Some.filled.values)
           c.bytes.ensures c.in-Some.ensures)
           ∙ c.loop-turn.invariant.1,
     )

@@ -17,15 +17,15 @@ returns c =
     let s = c.count.result in
     record {
       told = behind_spaces line at s c.count-size.result
-          (c.count.ensures.told ∙ ap (prefix_len (takes Spaces)) c.bytes-from.ensures)
-          (c.count-size.ensures.told ∙ ap (prefix_len (takes Word)) c.bytes-from-2.ensures);
+          (c.count.ensures.told ∙ ap (prefix_len (takes Spaces)) c.bytes_from.ensures)
+          (c.count-size.ensures.told ∙ ap (prefix_len (takes Word)) c.bytes_from-2.ensures);
       within = omega (
         arith,
         c.requires,
         c.count.ensures.within,
         c.count-size.ensures.within,
-        ap length c.bytes-from.ensures,
-        ap length c.bytes-from-2.ensures,
+        ap length c.bytes_from.ensures,
+        ap length c.bytes_from-2.ensures,
         length-drop at line,
         length-drop (at + s) line,
       );

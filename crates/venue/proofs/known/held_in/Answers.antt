@@ -6,24 +6,24 @@ use Rattle.matching.proofs.Walks.{one_more, no_more}
 use Rattle.venue.proofs.Seen.{counted}
 use Rattle.venue.proofs.known.held_in.Goals as goal
 
-pub returns-in-default : goal.returns-in-default
-returns-in-default g c =
+pub returns-in_default : goal.returns-in_default
+returns-in_default g c =
     let l = orders_in c.args.queue (g.B.Book.queues c.args.book.now) in
-    sym (ap (any (holds c.args.firm c.args.client c.args.except)) (no_more l c.loop-place.place (sym c.order-at.ensures ∙ c.in-default.is))) ∙ c.loop-place.invariant
+    sym (ap (any (holds c.args.firm c.args.client c.args.except)) (no_more l c.loop-place.place (sym c.order_at.ensures ∙ c.in_default.is))) ∙ c.loop-place.invariant
 
-pub returns-then-does-hold : goal.returns-then-does-hold
-returns-then-does-hold g c =
+pub returns-then-does_hold : goal.returns-then-does_hold
+returns-then-does_hold g c =
     let l = orders_in c.args.queue (g.B.Book.queues c.args.book.now) in
     let p = holds c.args.firm c.args.client c.args.except in
-    let e = ap (any p) (one_more l c.loop-place.place c.in-Some.order (sym c.order-at.ensures ∙ c.in-Some.is)) in
-    sym (e ∙ rw (← c.if-does-hold.ensures)) ∙ c.loop-place.invariant
+    let e = ap (any p) (one_more l c.loop-place.place c.in-Some.order (sym c.order_at.ensures ∙ c.in-Some.is)) in
+    sym (e ∙ rw (← c.if-does_hold.ensures)) ∙ c.loop-place.invariant
 
 pub loop-place-preserved : goal.loop-place-preserved
 loop-place-preserved g c =
     let l = orders_in c.args.queue (g.B.Book.queues c.args.book.now) in
     let p = holds c.args.firm c.args.client c.args.except in
-    let e = ap (any p) (one_more l c.loop-place.place c.in-Some.order (sym c.order-at.ensures ∙ c.in-Some.is)) in
-    sym (e ∙ rw (← c.if-does-hold.ensures)) ∙ c.loop-place.invariant
+    let e = ap (any p) (one_more l c.loop-place.place c.in-Some.order (sym c.order_at.ensures ∙ c.in-Some.is)) in
+    sym (e ∙ rw (← c.if-does_hold.ensures)) ∙ c.loop-place.invariant
 
 pub returns : goal.returns
 returns g c =

@@ -10,8 +10,8 @@ returns-in-Some g c =
     let q = g.B.Book.queues c.args.self.now.below in
     let n = c.args.queue in
     let t = c.in-Some.ensures in
-    let last = c.let-go.new.self in
+    let last = c.let_go.new.self in
     record {
-      left = flushed h q c.in-Some.h n (held_by last) (g.B.Book.queues last.below) (t.there c.in-Some.h refl) t.told c.let-go.ensures.left (ap g.B.Book.queues c.let-go.ensures.same ∙ c.rewrite.ensures.left);
-      none = ap (held_at n) c.let-go.ensures.left ∙ none_after h q n;
+      left = flushed h q c.in-Some.h n (held_by last) (g.B.Book.queues last.below) (t.there c.in-Some.h refl) t.told c.let_go.ensures.left (ap g.B.Book.queues c.let_go.ensures.same ∙ c.rewrite.ensures.left);
+      none = ap (held_at n) c.let_go.ensures.left ∙ none_after h q n;
     }

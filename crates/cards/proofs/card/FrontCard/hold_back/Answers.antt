@@ -10,7 +10,7 @@ returns-then-fits g c =
     let r = c.args.record in
     let last = c.hold.new.self in
     record {
-      told = fit_seen r q c.queue.result c.look.result c.ranks-as-fits.result c.queue.ensures c.look.ensures c.ranks-as-fits.ensures
+      told = fit_seen r q c.queue.result c.look.result c.ranks_as-fits.result c.queue.ensures c.look.ensures c.ranks_as-fits.ensures
           ∙ fits_same h q 0 r;
       left = held_back h q r (held_by last) (g.B.Book.queues last.below) c.hold.ensures.left (ap g.B.Book.queues c.hold.ensures.same)
           (fit_seen r q c.queue.result c.look.result _ c.queue.ensures c.look.ensures c.if-fits.ensures);
@@ -23,7 +23,7 @@ returns-else-fits g c =
     let q = g.B.Book.queues c.args.self.now.below in
     let r = c.args.record in
     record {
-      told = fit_seen r q c.queue.result c.look.result c.ranks-as-fits.result c.queue.ensures c.look.ensures c.ranks-as-fits.ensures
+      told = fit_seen r q c.queue.result c.look.result c.ranks_as-fits.result c.queue.ensures c.look.ensures c.ranks_as-fits.ensures
           ∙ fits_same h q 0 r;
       left = refused h q r (fit_seen r q c.queue.result c.look.result _ c.queue.ensures c.look.ensures c.if-fits.ensures);
       same = refl;

@@ -10,9 +10,9 @@ returns-then-free-gap g c =
     let n : length ss ≡ 32 = search rules in
     record {
       told = put_told ss n c.in-Some.free c.in-Some.ensures;
-      left = put_left g.T.Ranked.place ss c.carry-back.new.slots n c.carry-back.ensures.same c.gap-of-gap.result c.args.x
-          (c.gap-of-gap.ensures.is ∙ ap (λ k. place_of g.T.Ranked.place k (held ss)) c.rank.ensures)
-          c.carry-back.ensures.left;
+      left = put_left g.T.Ranked.place ss c.carry_back.new.slots n c.carry_back.ensures.same c.gap_of-gap.result c.args.x
+          (c.gap_of-gap.ensures.is ∙ ap (λ k. place_of g.T.Ranked.place k (held ss)) c.rank.ensures)
+          c.carry_back.ensures.left;
       same = refl;
     }
 
@@ -22,9 +22,9 @@ returns-else-free-gap g c =
     let n : length ss ≡ 32 = search rules in
     record {
       told = put_told ss n c.in-Some.free c.in-Some.ensures;
-      left = put_left g.T.Ranked.place ss c.carry-on.new.slots n c.carry-on.ensures.same c.gap-of-gap.result c.args.x
-          (c.gap-of-gap.ensures.is ∙ ap (λ k. place_of g.T.Ranked.place k (held ss)) c.rank.ensures)
-          c.carry-on.ensures.left;
+      left = put_left g.T.Ranked.place ss c.carry_on.new.slots n c.carry_on.ensures.same c.gap_of-gap.result c.args.x
+          (c.gap_of-gap.ensures.is ∙ ap (λ k. place_of g.T.Ranked.place k (held ss)) c.rank.ensures)
+          c.carry_on.ensures.left;
       same = refl;
     }
 

@@ -17,8 +17,8 @@ returns-in-Some g c =
       same = refl;
     }
 
-pub returns-in-default : goal.returns-in-default
-returns-in-default g c =
+pub returns-in_default : goal.returns-in_default
+returns-in_default g c =
     let ss = c.args.self.now.slots in
     let n : length ss ≡ 32 = search rules in
-    record { left = rw (all_held ss n) (sym (set_past (held ss) c.args.at c.args.x c.in-default.ensures)); same = refl }
+    record { left = rw (all_held ss n) (sym (set_past (held ss) c.args.at c.args.x c.in_default.ensures)); same = refl }

@@ -6,4 +6,4 @@ pub returns : goal.returns
 returns g c =
     let told = first_number g.T.Numbered.num c.args.number in
     let e : c.used.result - 0 ≡ c.used.result = omega arith in
-    c.find-in.ensures ∙ ap (λ n. told (take n c.args.self.now.rows.now)) e ∙ ap told (sym c.used.ensures.front)
+    c.find_in.ensures ∙ ap (λ n. told (take n c.args.self.now.rows.now)) e ∙ ap told (sym c.used.ensures.front)

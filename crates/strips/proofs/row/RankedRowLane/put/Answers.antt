@@ -9,6 +9,6 @@ returns g c =
     let u = c.used-n.ensures in
     record {
       told = put_told s.count 1000000 s.rows.now n c.room.result u.is c.room.ensures.is c.if-n-room.false;
-      left = put_left s.count 1000000 s.rows.now n g.T.Ranked.place c.room.result c.insert-in.new.rows c.args.x u.front c.room.ensures.is c.if-n-room.false c.insert-in.ensures;
+      left = put_left s.count 1000000 s.rows.now n g.T.Ranked.place c.room.result c.insert_in.new.rows c.args.x u.front c.room.ensures.is c.if-n-room.false c.insert_in.ensures;
       same = search rules;
     }

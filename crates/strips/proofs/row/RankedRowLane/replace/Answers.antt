@@ -6,7 +6,7 @@ use Rattle.strips.proofs.row.RankedRowLane.replace.Goals as goal
 pub returns-then-at-used : goal.returns-then-at-used
 returns-then-at-used g c =
     let s = c.args.self.now in
-    record { left = ap (front s.count 1000000) c.write-in.ensures ∙ front_set s.count 1000000 s.rows.now c.args.at c.args.x; same = search rules }
+    record { left = ap (front s.count 1000000) c.write_in.ensures ∙ front_set s.count 1000000 s.rows.now c.args.at c.args.x; same = search rules }
 
 pub returns-else-at-used : goal.returns-else-at-used
 returns-else-at-used g c =

@@ -9,7 +9,7 @@ returns-then-at-n g c =
     let u = c.used-n.ensures in
     record {
       told = c.look-x.ensures;
-      left = take_left s.count 1000000 s.rows.now n u.is u.front c.args.at c.remove-in.new.rows c.if-at-n.true c.remove-in.ensures;
+      left = take_left s.count 1000000 s.rows.now n u.is u.front c.args.at c.remove_in.new.rows c.if-at-n.true c.remove_in.ensures;
       same = search rules;
     }
 

@@ -8,10 +8,10 @@ pub returns-then-at-eq0 : goal.returns-then-at-eq0
 returns-then-at-eq0 g c =
     let h = held_by c.args.self.now in
     let q = g.B.Book.queues c.args.self.now.below in
-    let last = c.let-go.new.self in
+    let last = c.let_go.new.self in
     record {
       told = rw c.if-at-eq0.true c.first-first.ensures;
-      left = rw c.if-at-eq0.true (first_taken h q c.args.queue (held_by last) (g.B.Book.queues last.below) c.let-go.ensures.left (ap g.B.Book.queues c.let-go.ensures.same ∙ c.take.ensures.left));
+      left = rw c.if-at-eq0.true (first_taken h q c.args.queue (held_by last) (g.B.Book.queues last.below) c.let_go.ensures.left (ap g.B.Book.queues c.let_go.ensures.same ∙ c.take.ensures.left));
     }
 
 pub returns : goal.returns
