@@ -1,16 +1,14 @@
 -- An order is its row: two orders with one row are one.
-use Rattle.std.proofs.Common.{◌≡◌, ℕ, ◌-◌, ◌<◌, ◌≤◌, min, Bool, true, false, cond, sym, refl, ap, ◌∙◌, arith}
+use Rattle.std.proofs.Common.{◌≡◌, true, false, ap, arith}
 use Rattle.std.proofs.lemmas.Bool.Decides.{nat_tests}
 use Rattle.orders.specs.declared.price.Price.{Price}
 use Rattle.orders.specs.declared.order.Stop.{Stop}
-use Rattle.orders.specs.declared.row.StopRow.{StopRow}
 use denote.Struct.Record.{values_one}
 use Rattle.orders.specs.contracts.order.Order.{struct, the_type}
 use Rattle.orders.specs.declared.order.Order.{Order}
 use Rattle.orders.specs.declared.row.OrderRow.{OrderRow}
 use Rattle.orders.specs.Bounds.{fits, keeps, Fits}
 use Rattle.orders.specs.Rows.{row_of, cut, order_of, stop_of, stop_row_of}
-use Rattle.orders.specs.Lots.{with_lots, showing, lowered, renewed}
 
 pub same_order : (a b : Order) → row_of a ≡ row_of b → a ≡ b
 same_order a b e = values_one struct the_type.propositions a b (ap (λ (r : OrderRow). (r.number, (r.turn, (r.firm, (r.client, (r.side, (r.price, (r.quantity, (r.leaves, (r.shown, (r.disclosed, (r.validity, (r.investor, (r.tag, tt)))))))))))))) e)

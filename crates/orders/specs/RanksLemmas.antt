@@ -1,8 +1,7 @@
 -- The laws of ranks.
-use Rattle.std.specs.Prelude.{◌≡◌, ℕ, ◌<◌, ◌≤◌, Bool, true, false, ◌⊎◌, refl}
-use Rattle.std.proofs.Common.{ap, ◌∙◌, sym, inl, inr, arith}
+use Rattle.std.specs.Prelude.{◌≡◌, ◌<◌, true, ◌⊎◌}
+use Rattle.std.proofs.Common.{arith}
 use Rattle.std.proofs.lemmas.Bool.Decides.{nat_tests}
-use Rattle.std.proofs.lemmas.Bool.{cases_order}
 use Rattle.orders.specs.declared.rank.Rank.{Rank}
 use Rattle.orders.specs.Ranks.{before}
 
