@@ -1,5 +1,5 @@
 -- What a book means: four queues of fixed capacity, and what each call answers and leaves.
-use Rattle.std.specs.Prelude.{◌≡◌, ℕ, suc, ◌+◌, ◌≤◌, Bool, true, false, cond, not, ◌&&◌, List, [], ◌∷◌, length, is_some, Some, None, Option, nat_lt, slice_set, refl}
+use Rattle.std.specs.Prelude.{ℕ, ◌≤◌, Bool, cond, List, [], length, is_some, Some, None, Option, nat_lt, slice_set}
 use Rattle.std.specs.List.{remove, slice_get}
 use Rattle.std.specs.Option.{option_map, option_or}
 use Rattle.orders.specs.declared.side.Side.{Side}
@@ -7,7 +7,7 @@ use Rattle.orders.specs.declared.side.Side.TheVariants.{Buy, Sell}
 use Rattle.orders.specs.declared.order.Order.{Order}
 use Rattle.orders.specs.declared.order.Stop.{Stop}
 use Rattle.orders.specs.declared.rank.Rank.{Rank}
-use Rattle.orders.specs.Ranks.{before, order_rank, stop_rank}
+use Rattle.orders.specs.Ranks.{order_rank, stop_rank}
 use Rattle.orders.specs.Rows.{row_of, stop_row_of}
 use Rattle.books.specs.Lists.{put_in, first_number, swap_fits}
 use Rattle.books.specs.declared.queue.Queue.{Queue}
