@@ -1,6 +1,5 @@
 -- How the worked cases are written: forms, lines, and what is left in the queues.
 use Rattle.std.specs.Prelude.{◌≡◌, ℕ, List, [], ◌∷◌, map, reverse, Some, None, Option}
-use Rattle.std.specs.List.{AllByRecursion as All}
 use Rattle.orders.specs.declared.price.Price.{Price}
 use Rattle.orders.specs.declared.order.Order.{Order}
 use Rattle.orders.specs.declared.order.Stop.{Stop}

@@ -1,5 +1,5 @@
 -- The form of a change: blanks, then ranges, then a validity that is barred.
-use Rattle.std.specs.Prelude.{ℕ, Bool, true, false, cond, Some, None, Ok, Err, Option, Result}
+use Rattle.std.specs.Prelude.{ℕ, Bool, false, cond, Some, None, Ok, Err, Option, Result}
 use Rattle.std.specs.Option.{unwrap_or}
 use Rattle.orders.specs.declared.side.Validity.{Validity}
 use Rattle.orders.specs.Sides.{fleeting}

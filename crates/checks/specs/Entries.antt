@@ -1,5 +1,5 @@
 -- The form of an entry: blanks, then ranges, then barred combinations, leftmost cell first.
-use Rattle.std.specs.Prelude.{ℕ, Bool, true, false, cond, not, is_some, Some, None, Ok, Err, Option, Result}
+use Rattle.std.specs.Prelude.{ℕ, Bool, false, cond, not, is_some, Some, None, Ok, Err, Option, Result}
 use Rattle.std.specs.Option.{unwrap_or}
 use Rattle.orders.specs.declared.price.Price.{Price}
 use Rattle.forms.specs.declared.form.EntryForm.{EntryForm}

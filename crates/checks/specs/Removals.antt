@@ -1,5 +1,5 @@
 -- The forms of a cancel, a mass cancel and an opening.
-use Rattle.std.specs.Prelude.{ℕ, Bool, true, false, cond, Some, None, Ok, Err, Option, Result}
+use Rattle.std.specs.Prelude.{ℕ, cond, Some, None, Ok, Err, Option, Result}
 use Rattle.std.specs.Option.{unwrap_or}
 use Rattle.forms.specs.declared.form.CancelForm.{CancelForm}
 use Rattle.forms.specs.declared.form.MassCancelForm.{MassCancelForm}

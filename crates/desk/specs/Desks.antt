@@ -1,6 +1,5 @@
 -- What a sheet does to a venue and to the list of replies, row by row.
 use Rattle.std.specs.Prelude.{ℕ, zero, suc, ◌+◌, ◌-◌, cond, List, [], ◌∷◌, ◌++◌, length, Some, None, Ok, Err, Option, Result, nat_lt}
-use Rattle.std.specs.Option.{option_map}
 use Rattle.forms.specs.declared.form.Form.{Form}
 use Rattle.forms.specs.declared.refusal.Refusal.{Refusal}
 use Rattle.forms.specs.declared.refusal.Refusal.TheVariants.{NoReplies}
@@ -10,7 +9,7 @@ use Rattle.sheets.specs.declared.replies.Replies.{Replies}
 use Rattle.sheets.specs.Layout.{word}
 use Rattle.sheets.specs.Rows.{read_form}
 use Rattle.sheets.specs.Sheets.{sheet_refusal, row_bytes}
-use Rattle.sheets.specs.Replies.{reply_of, sheet_reply, posted}
+use Rattle.sheets.specs.Replies.{reply_of, posted}
 
 -- a venue with its list of replies, and how many the list takes
 pub record Desk : Type 0 where

@@ -21,7 +21,7 @@ use Rattle.matching.specs.declared.asked.Asked.{Asked}
 use Rattle.matching.specs.Model.{Floor, Event, enters, parks, bounces, misses, happen}
 use Rattle.matching.specs.Next.{total, first_order}
 use Rattle.matching.specs.Entering.{order_from, short, judged, stop_from, parks_or_not, at_market, arrival_as, arrival}
-use Rattle.laws.specs.Tally.{Place, stands, waits, incoming, Account, Tally, Request, entry, account, adjust, only, numbered, take_off, refilled, ran_out, less, no_price, limit_as, place_as, newcomer, noted}
+use Rattle.laws.specs.Tally.{Place, waits, incoming, Account, Tally, Request, entry, account, adjust, only, numbered, take_off, refilled, ran_out, less, no_price, limit_as, place_as, newcomer, noted}
 use Rattle.laws.specs.Fair.{FairLines}
 use Rattle.laws.proofs.Queues.{Low, Sided}
 use Rattle.laws.proofs.Sums.{Measure, over_agree, everywhere, one_of}

@@ -16,7 +16,7 @@ use Rattle.books.specs.Model.{at, rank_of}
 use Rattle.matching.specs.Model.{Floor}
 use Rattle.matching.specs.Next.{total}
 use Rattle.matching.specs.Reach.{better}
-use Rattle.laws.specs.Tally.{stands, waits, incoming, Account, Tally, stands_on, better_of, first_price}
+use Rattle.laws.specs.Tally.{stands, incoming, Account, Tally, stands_on, better_of, first_price}
 use Rattle.laws.proofs.Lists.{Sorted}
 use Rattle.laws.proofs.Queues.{Good, Low, Sided, price_same, ranks_lower}
 use Rattle.laws.proofs.Sums.{Measure, of_hand, of_stop, everywhere, total_none}

@@ -5,7 +5,7 @@ use Rattle.forms.specs.declared.form.Form.TheVariants.{Entry, Change, Cancel, Ma
 use Rattle.matching.specs.declared.asked.Asked.{Asked}
 use Rattle.matching.specs.Next.{total}
 use Rattle.checks.specs.Entries.{read_entry}
-use Rattle.venue.specs.Days.{State, set_up, answer, step}
+use Rattle.venue.specs.Days.{State, answer, step}
 use Rattle.laws.specs.Accounts.{traded_lots}
 use Rattle.laws.specs.Runs.{clock_of}
 use Rattle.laws.specs.Smooth.{Course, floor}

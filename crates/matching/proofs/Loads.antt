@@ -1,5 +1,5 @@
 -- What each operation of a book does to the load of the queues.
-use Rattle.std.proofs.Common.{◌≡◌, ℕ, zero, suc, ◌+◌, ◌-◌, ◌*◌, ◌<◌, ◌≤◌, Bool, true, false, cond, ◌&&◌, List, [], ◌∷◌, ◌++◌, length, take, drop, set, Some, None, Option, sym, refl, ap, ◌∙◌, subst, arith}
+use Rattle.std.proofs.Common.{◌≡◌, ℕ, zero, suc, ◌+◌, ◌*◌, ◌≤◌, Bool, true, false, cond, List, [], ◌∷◌, length, set, Some, refl, ap, arith}
 use Rattle.std.specs.List.{insert, remove, slice_get}
 use Rattle.std.specs.Option.{option_map}
 use Rattle.orders.specs.declared.side.Side.{Side}
@@ -7,7 +7,7 @@ use Rattle.orders.specs.declared.side.Side.TheVariants.{Buy, Sell}
 use Rattle.orders.specs.declared.order.Order.{Order}
 use Rattle.orders.specs.declared.order.Stop.{Stop}
 use Rattle.books.specs.Lists.{put_in, place_of}
-use Rattle.books.specs.Model.{Queues, at, with_at, with_stands, with_waits, rank_of, order_in, stop_in, put_answer, after_put, placed, taken, rewritten, rewrite_fits, record_set}
+use Rattle.books.specs.Model.{Queues, at, with_stands, with_waits, rank_of, order_in, stop_in, put_answer, after_put, placed, taken, rewritten, rewrite_fits, record_set}
 use Rattle.books.specs.declared.queue.Queue.TheVariants.{Orders, Stops}
 use Rattle.books.specs.declared.queue.Record.TheVariants.{Standing, Waiting}
 use Rattle.books.specs.declared.queue.Put.{Put}

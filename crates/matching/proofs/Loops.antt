@@ -1,5 +1,5 @@
 -- The turns of the code's loops: each does the event that is next.
-use Rattle.std.proofs.Common.{◌≡◌, ℕ, ◌<◌, ◌≤◌, Bool, true, false, cond, Some, None, Option, sym, refl, ap, ◌∙◌, subst, arith}
+use Rattle.std.proofs.Common.{◌≡◌, ◌<◌, ◌≤◌, true, false, Some, None, Option, sym, refl, ap, ◌∙◌, subst, arith}
 use Rattle.orders.specs.declared.side.Side.{Side}
 use Rattle.orders.specs.declared.order.Order.{Order}
 use Rattle.orders.specs.declared.order.Stop.{Stop}
@@ -10,7 +10,7 @@ use Rattle.tapes.specs.declared.tape.Tape.{Tape}
 use Rattle.tapes.specs.declared.cause.Cause.TheVariants.{OwnInvestor}
 use Rattle.matching.specs.declared.clock.Clock.{Clock}
 use Rattle.matching.specs.Model.{Floor, Event, drops, trades, fires, happen}
-use Rattle.matching.specs.Next.{next, first_order, leftover, meets, next_stop, firing, weight, settled}
+use Rattle.matching.specs.Next.{first_order, leftover, meets, next_stop, firing, weight, settled}
 use Rattle.matching.specs.Stepping.{floor}
 use Rattle.matching.proofs.Turns.{Turn, turn, settled_end}
 

@@ -1,13 +1,13 @@
 -- How many parts an order has, and what a trade leaves of them.
-use Rattle.std.proofs.Common.{◌≡◌, ℕ, zero, suc, ◌+◌, ◌-◌, ◌*◌, ◌/◌, ◌<◌, ◌≤◌, min, Bool, true, false, cond, eqb, ◌⊎◌, sym, refl, ap, ◌∙◌, inl, inr, ⊎_elim, div-lt_iff_lt-mul, le-div_iff_mul-le, arith}
+use Rattle.std.proofs.Common.{◌≡◌, ℕ, zero, suc, ◌+◌, ◌-◌, ◌*◌, ◌<◌, ◌≤◌, min, ap, ⊎_elim, div-lt_iff_lt-mul, le-div_iff_mul-le, arith}
 use native.Mathlib.Nat.{div-zero, div-eq-sub-div}
 use Rattle.std.proofs.lemmas.Bool.Decides.{nat_tests}
-use Rattle.std.proofs.lemmas.Bool.{cases_lt, cases_eq, cond-false, ne_eqb}
+use Rattle.std.proofs.lemmas.Bool.{cases_lt, cases_eq}
 use Rattle.orders.specs.declared.order.Order.{Order}
 use Rattle.orders.specs.declared.row.OrderRow.{OrderRow}
-use Rattle.orders.specs.Bounds.{Fits, keeps}
-use Rattle.orders.specs.Rows.{row_of, cut, order_of}
-use Rattle.orders.specs.Lots.{showing, with_lots, lowered, renewed}
+use Rattle.orders.specs.Bounds.{Fits}
+use Rattle.orders.specs.Rows.{cut, order_of}
+use Rattle.orders.specs.Lots.{showing, with_lots, renewed}
 use Rattle.orders.proofs.Orders.{fits_from}
 use Rattle.matching.specs.Next.{slices, parts}
 

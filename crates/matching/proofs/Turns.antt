@@ -1,5 +1,5 @@
 -- One event, then the rest: what the loops of the code stand on.
-use Rattle.std.proofs.Common.{◌≡◌, ℕ, zero, suc, ◌+◌, ◌-◌, ◌*◌, ◌<◌, ◌≤◌, min, Bool, true, false, cond, eqb, Some, None, Option, sym, refl, ap, ◌∙◌, subst, arith}
+use Rattle.std.proofs.Common.{◌≡◌, ℕ, zero, suc, ◌+◌, ◌<◌, ◌≤◌, Bool, true, false, cond, eqb, Some, None, Option, sym, refl, ap, ◌∙◌, subst, arith}
 use Rattle.std.proofs.lemmas.Bool.{cond_both, cond-true, eqb-true, eqb-false, eq-eqb}
 use Rattle.orders.specs.declared.side.Side.{Side}
 use Rattle.orders.specs.declared.side.Side.TheVariants.{Buy, Sell}
@@ -8,14 +8,14 @@ use Rattle.orders.specs.declared.order.Stop.{Stop}
 use Rattle.orders.specs.declared.price.Price.{Price}
 use Rattle.orders.specs.Sides.{other, fleeting}
 use Rattle.orders.specs.Lots.{lowered, renewed, within, same_investor}
-use Rattle.tapes.specs.declared.cause.Cause.TheVariants.{Leftover, OwnInvestor, NoPlace}
+use Rattle.tapes.specs.declared.cause.Cause.TheVariants.{Leftover, OwnInvestor}
 use Rattle.books.specs.declared.queue.Put.{Put}
 use Rattle.books.specs.declared.queue.Put.TheVariants.{Done, Full, Twice}
-use Rattle.books.specs.declared.queue.Queue.TheVariants.{Orders, Stops}
-use Rattle.books.specs.declared.queue.Record.TheVariants.{Standing, Waiting}
+use Rattle.books.specs.declared.queue.Queue.TheVariants.{Orders}
+use Rattle.books.specs.declared.queue.Record.TheVariants.{Standing}
 use Rattle.books.specs.Model.{Queues, put_answer, taken}
 use Rattle.matching.specs.Model.{Floor, Event, enters, parks, bounces, misses, drops, trades, stays, fires, pulls, amends, recalls, Fate, gone, again, kept, fate, met, held, deal, happen}
-use Rattle.matching.specs.Next.{next, next_with, first_order, first_stop, stands_or_not, leftover, meets, ripe, if_ripe, sooner, next_stop, firing, go_on, settle, parts, in_hand, load, weight, settled}
+use Rattle.matching.specs.Next.{next, next_with, first_order, first_stop, stands_or_not, leftover, meets, ripe, if_ripe, sooner, firing, go_on, settle, parts, in_hand, load, weight, settled}
 use Rattle.matching.proofs.Parts.{parts_most, parts_least, parts_renewed}
 use Rattle.matching.proofs.Loads.{load_taken, load_fired, load_placed, load_put_back, load_rewritten}
 

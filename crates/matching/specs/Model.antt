@@ -3,7 +3,7 @@
 --   resting    the first opposite order, which the incoming one meets
 --   deal       the lots that the two trade
 --   fate       what becomes of the resting order: gone, shown again behind its price, or kept first
-use Rattle.std.specs.Prelude.{ℕ, min, Bool, true, false, cond, Some, None, Option, ◌==◌}
+use Rattle.std.specs.Prelude.{ℕ, min, cond, Some, None, Option, ◌==◌}
 use Rattle.orders.specs.declared.side.Side.{Side}
 use Rattle.orders.specs.declared.order.Order.{Order}
 use Rattle.orders.specs.declared.order.Stop.{Stop}

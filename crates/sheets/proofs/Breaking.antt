@@ -1,8 +1,8 @@
 -- The walk over a directory stops at the first pair that breaks the rule, and nowhere else.
-use Rattle.std.proofs.Common.{◌≡◌, ℕ, zero, suc, ◌+◌, ◌<◌, ◌≤◌, ◌⊎◌, List, length, Some, None, Option, sym, refl, ap, ◌∙◌, subst, ⊎_elim, add-one, arith}
+use Rattle.std.proofs.Common.{◌≡◌, ℕ, zero, suc, ◌+◌, ◌<◌, ◌≤◌, ◌⊎◌, List, length, Some, None, Option, sym, refl, ⊎_elim, add-one, arith}
 use Rattle.std.proofs.lemmas.Bool.{cases_eq}
 use Rattle.std.proofs.lemmas.Bool.Decides.{nat_tests}
-use Rattle.sheets.specs.Layout.{offset_at, ends_at, directory_end, placed, walk, first_misplaced}
+use Rattle.sheets.specs.Layout.{offset_at, ends_at, directory_end, placed, walk}
 use Rattle.sheets.specs.Pairs.{Keeps, FirstBreaking, PairRule}
 use Rattle.sheets.specs.declared.directory.Directory.{Directory}
 

@@ -1,12 +1,12 @@
 -- Pairs that are placed lie inside, and two that name the same bytes name the same part.
-use Rattle.std.proofs.Common.{◌≡◌, ℕ, zero, suc, ◌+◌, ◌-◌, ◌<◌, ◌≤◌, List, length, get_or, take, drop, Some, None, Ok, Err, Option, Result, sym, refl, ap, ◌∙◌, ⊎_elim, arith}
+use Rattle.std.proofs.Common.{◌≡◌, ℕ, zero, suc, ◌+◌, ◌<◌, ◌≤◌, List, length, get_or, drop, Some, None, Ok, Err, Option, Result, sym, refl, ap, ◌∙◌, ⊎_elim, arith}
 use Rattle.std.proofs.lemmas.List.{length-take, length-drop, get_or-take, get_or-drop, ext_get_or}
 use Rattle.std.proofs.lemmas.Bool.{cases_eq}
 use Rattle.std.proofs.lemmas.Bool.Decides.{nat_tests}
 use Rattle.forms.specs.declared.refusal.Refusal.{Refusal}
-use Rattle.sheets.specs.Alone.{Agree, RowAlone, CellAlone}
+use Rattle.sheets.specs.Alone.{RowAlone, CellAlone}
 use Rattle.sheets.specs.Layout.{word, part, offset_at, length_at, ends_at, placed, walk, first_misplaced, part_at}
-use Rattle.sheets.specs.Rows.{number_cell, price_cell, type_cell, read_form, in_cell}
+use Rattle.sheets.specs.Rows.{read_form, in_cell}
 use Rattle.sheets.specs.Cells.{read_number, read_price, read_type}
 use Rattle.sheets.specs.Sheets.{sheet_refusal, directory_refusal, misplaced_row, row_count}
 use Rattle.sheets.specs.declared.directory.Directory.{Directory}

@@ -1,11 +1,10 @@
 -- Number, price and type cells: a value comes from a good cell, and a refusal names the first wrong byte.
-use Rattle.std.proofs.Common.{◌≡◌, ℕ, zero, suc, ◌+◌, ◌-◌, ◌*◌, ◌<◌, ◌≤◌, Bool, true, false, cond, ◌&&◌, eqb, ltb, ◌⊎◌, List, [], ◌∷◌, ◌++◌, length, get_or, take, drop, replicate, Some, None, Ok, Err, Result, sym, refl, ap, ◌∙◌, subst, inl, inr, ⊎_elim, arith, lit≤, ltb-false, ltb-true, eqb-true}
+use Rattle.std.proofs.Common.{◌≡◌, ℕ, zero, suc, ◌+◌, ◌-◌, ◌*◌, ◌<◌, ◌≤◌, Bool, true, false, cond, ◌&&◌, eqb, ltb, List, [], ◌∷◌, ◌++◌, length, get_or, take, drop, replicate, Some, None, Ok, Err, sym, refl, ap, ◌∙◌, subst, ⊎_elim, arith, lit≤, ltb-false, ltb-true, eqb-true}
 use borrow.Author.Tests.{eqb-false}
 use Rattle.std.proofs.lemmas.List.{length-drop, length-replicate, get_or-replicate, get_or-drop, get_or_past, nil_from_length}
 use Rattle.std.proofs.lemmas.Bool.{cases_eq, cases_lt}
-use Rattle.std.proofs.lemmas.Bool.Decides.{nat_tests}
 use Rattle.orders.specs.declared.price.Price.{Price}
-use Rattle.sheets.specs.Cells.{is_digit, digits, written, is_blank, read_number, read_cents, read_price, read_type}
+use Rattle.sheets.specs.Cells.{is_digit, digits, written, is_blank, read_number, read_price, read_type}
 use Rattle.sheets.specs.Places.{GoodNumber, GoodPrice, GoodType, Begins, FirstWrong, Told, CellsTold}
 use Rattle.sheets.proofs.Fronts.{within_most, within_cell, digit_at, stops_at, length_put, front_put, back_put}
 

@@ -1,8 +1,7 @@
 -- Lines and what they say.
-use Rattle.std.specs.Prelude.{◌≡◌, ℕ, List, Some, None, Ok, Err, codes, Option, Result}
+use Rattle.std.specs.Prelude.{◌≡◌, ℕ, List, Some, None, Ok, Err, codes}
 use Rattle.forms.specs.declared.form.Form.{Form}
 use Rattle.forms.specs.declared.form.Form.TheVariants.{Entry, Change, Cancel, MassCancel, Closing, Opening}
-use Rattle.tables.specs.declared.words.BadWord.{BadWord}
 use Rattle.tables.specs.Lines.{read_line}
 
 -- a line asks for a form

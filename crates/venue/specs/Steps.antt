@@ -1,5 +1,5 @@
 -- The steps of an open day: what each is told, and what it leaves.
-use Rattle.std.specs.Prelude.{ℕ, Bool, true, false, cond, Some, None, Ok, Err, Option, Result, nat_le, nat_lt}
+use Rattle.std.specs.Prelude.{ℕ, cond, Some, None, Ok, Err, Result, nat_le, nat_lt}
 use Rattle.orders.specs.declared.order.Order.{Order}
 use Rattle.books.specs.Model.{Queues}
 use Rattle.tapes.specs.Reels.{Reel}

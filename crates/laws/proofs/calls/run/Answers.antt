@@ -1,4 +1,4 @@
-use Rattle.std.proofs.Common.{◌≡◌, ◌+◌, drop, sym, ap, ◌∙◌, arith}
+use Rattle.std.proofs.Common.{◌+◌, drop, sym, ap, ◌∙◌, arith}
 use Rattle.tapes.specs.Reels.{reel}
 use Rattle.venue.specs.Days.{State, state, set_up, at_least_1}
 use Rattle.laws.specs.Tally.{starting}

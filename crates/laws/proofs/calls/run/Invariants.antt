@@ -1,5 +1,4 @@
 use Rattle.std.proofs.Common.{◌≡◌, ◌≤◌, length, drop}
-use Rattle.tapes.specs.Reels.{reel}
 use Rattle.venue.specs.Days.{state}
 use Rattle.laws.specs.Runs.{after}
 use Rattle.laws.proofs.calls.run.Given as goal

@@ -1,4 +1,4 @@
-use Rattle.std.proofs.Common.{◌≡◌, None, Option, sym, ap, ◌∙◌}
+use Rattle.std.proofs.Common.{None, Option, sym, ap, ◌∙◌}
 use Rattle.orders.specs.declared.side.Side.{Side}
 use Rattle.orders.specs.declared.order.Order.{Order}
 use Rattle.matching.specs.declared.asked.Kind.{Kind}

@@ -1,6 +1,5 @@
-use Rattle.std.proofs.Common.{◌≡◌, cond, drop, sym, ap, ◌∙◌, arith}
+use Rattle.std.proofs.Common.{sym, ap, ◌∙◌, arith}
 use Rattle.std.proofs.lemmas.List.{drop_all}
-use Rattle.std.proofs.lemmas.Bool.{cond-true, cond-false}
 use Rattle.orders.specs.Sides.{other}
 use Rattle.books.specs.Model.{at}
 use Rattle.matching.specs.Reach.{counts, open_lots}

@@ -1,12 +1,9 @@
-use Rattle.std.proofs.Common.{◌≡◌, ℕ, suc, ◌+◌, ◌-◌, None, sym, ap, ◌∙◌, arith}
+use Rattle.std.proofs.Common.{◌≡◌, ℕ, ◌+◌, ◌-◌, None, sym, ap, ◌∙◌, arith}
 use Rattle.orders.specs.declared.order.Order.{Order}
-use Rattle.books.specs.declared.queue.Queue.{Queue}
-use Rattle.books.specs.Model.{count, room}
 use Rattle.matching.specs.Model.{Floor}
 use Rattle.matching.specs.Stepping.{floor}
-use Rattle.matching.specs.Removing.{picks, sweep, swept}
+use Rattle.matching.specs.Removing.{picks, sweep}
 use Rattle.matching.proofs.Sweeps.{at_end, pulled, passed, all_swept}
-use Rattle.matching.proofs.removing.sweep.Given as given
 use Rattle.matching.proofs.removing.sweep.Goals as goal
 
 whole : (p : ℕ × ℕ) (n m : ℕ) → p ≡ (n, m) → p.0 ≡ n

@@ -1,6 +1,6 @@
 use Rattle.std.proofs.Common.{◌≡◌, ◌-◌, ◌≤◌, None}
 use Rattle.matching.specs.declared.clock.Clock.{Clock}
-use Rattle.matching.specs.Removing.{sweep, swept}
+use Rattle.matching.specs.Removing.{sweep}
 use Rattle.matching.specs.Stepping.{floor}
 use Rattle.matching.proofs.removing.sweep.Given as goal
 

@@ -1,10 +1,10 @@
-use Rattle.std.proofs.Common.{◌≡◌, Some, None, sym, refl, ap, ◌∙◌}
+use Rattle.std.proofs.Common.{Some, None, ap, ◌∙◌}
 use Rattle.tapes.specs.declared.line.Line.{Line}
 use Rattle.tapes.specs.Reels.{Reel, reel, written}
 use Rattle.matching.specs.Model.{Floor}
 use Rattle.matching.specs.Stepping.{floor}
 use Rattle.matching.proofs.Turns.{Turn}
-use Rattle.matching.proofs.Loops.{Onward, at_first, onward, further, fewer, nobody, beyond, own, trade, fired, at_rest}
+use Rattle.matching.proofs.Loops.{at_first, onward, further, fewer, nobody, beyond, own, trade, fired, at_rest}
 use Rattle.matching.proofs.settling.settle.Given as given
 use Rattle.matching.proofs.settling.settle.Goals as goal
 

@@ -1,4 +1,4 @@
-use Rattle.std.proofs.Common.{◌≡◌, ℕ, suc, ◌+◌, ◌-◌, length, Some, None, Err, sym, ap, ◌∙◌, arith}
+use Rattle.std.proofs.Common.{◌≡◌, suc, ◌+◌, ◌-◌, length, Some, None, Err, sym, ap, ◌∙◌, arith}
 use Rattle.tables.proofs.Reading.{no_more, one_more, no_words, lies}
 use Rattle.tables.proofs.line.read_words.Goals as goal
 

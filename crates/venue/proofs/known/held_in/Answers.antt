@@ -1,6 +1,5 @@
-use Rattle.std.proofs.Common.{◌≡◌, ℕ, ◌||◌, List, sym, ap, ◌∙◌, arith}
+use Rattle.std.proofs.Common.{◌≡◌, ℕ, sym, ap, ◌∙◌, arith}
 use Rattle.std.proofs.lemmas.List.{drop_all}
-use Rattle.orders.specs.declared.order.Order.{Order}
 use Rattle.venue.specs.Known.{any, holds, orders_in}
 use Rattle.matching.proofs.Walks.{one_more, no_more}
 use Rattle.venue.proofs.Seen.{counted}

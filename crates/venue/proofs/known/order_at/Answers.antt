@@ -1,6 +1,5 @@
-use Rattle.std.proofs.Common.{◌≡◌, Some, None, Option, sym, ap, ◌∙◌}
+use Rattle.std.proofs.Common.{Some, ap, ◌∙◌}
 use Rattle.std.specs.Option.{option_map}
-use Rattle.books.specs.declared.queue.Record.{Record}
 use Rattle.books.specs.Model.{order_of_record}
 use Rattle.venue.proofs.Seen.{order_seen}
 use Rattle.venue.proofs.known.order_at.Goals as goal

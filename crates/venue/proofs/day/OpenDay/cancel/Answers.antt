@@ -1,4 +1,4 @@
-use Rattle.std.proofs.Common.{◌≡◌, Result, ap, ◌∙◌}
+use Rattle.std.proofs.Common.{Result, ap, ◌∙◌}
 use Rattle.tapes.specs.Reels.{reel}
 use Rattle.forms.specs.declared.refusal.Refusal.{Refusal}
 use Rattle.venue.specs.declared.known.Found.{Found}
