@@ -1,6 +1,6 @@
 -- The table of worked cases.
 use Rattle.std.specs.Prelude.{List, [], ◌∷◌}
-use Rattle.std.specs.List.{AllByRecursion as All}
+use Rattle.std.specs.List.{AllByRecursion}
 use Rattle.tapes.specs.declared.cause.Cause.TheVariants.{Asked, ShortReach, OwnInvestor}
 use Rattle.cases.specs.Sheet.{Case, Holds, entry, limit_order, buy, sell, fok, market, stop, change, cancel, A, R, S, T, C, rest}
 
@@ -92,4 +92,4 @@ abbrev pub table : List Case
 table = bid_stands ∷ half_sold ∷ bid_changed ∷ more_sold ∷ bid_cancelled ∷ all_or_nothing ∷ at_market ∷ refill_behind ∷ own_in_the_way ∷ own_met ∷ stop_fires ∷ []
 
 abbrev pub Worked : Type 0
-Worked = All Holds table
+Worked = AllByRecursion Holds table

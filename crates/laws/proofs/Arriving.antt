@@ -1,6 +1,6 @@
 -- An entry: its arrival fits, and the tally notes it.
 use Rattle.std.proofs.Common.{◌≡◌, ℕ, ◌+◌, ◌-◌, eqb, List, [], ◌∷◌, Some, None, Option, unwrap_or, sym, refl, ap, ◌∙◌, subst, arith}
-use Rattle.std.specs.List.{AllByRecursion as All, slice_get}
+use Rattle.std.specs.List.{AllByRecursion, slice_get}
 use Rattle.std.specs.Option.{option_map}
 use Rattle.std.proofs.lemmas.Bool.{cond_both, cond-true, eq-eqb}
 use Rattle.orders.specs.declared.side.Side.{Side}
@@ -55,7 +55,7 @@ fits_parks Done x f e h l = record { arrives = h; room_left = done_room (Waiting
 fits_parks Full x f e h l = h
 fits_parks Twice x f e h l = h
 
-first_low : (s : Side) (l : List Order) → All (Sided s) l → (r : Order) → order_in (option_map Standing (slice_get l 0)) ≡ Some r → Low r.price
+first_low : (s : Side) (l : List Order) → AllByRecursion (Sided s) l → (r : Order) → order_in (option_map Standing (slice_get l 0)) ≡ Some r → Low r.price
 first_low s [] d r e = let z : ◌≡◌ {A = ℕ} 0 1 = cc in absurd (omega arith)
 first_low s (x ∷ l) d r e = subst (λ (o : Order). Low o.price) (let z : x ≡ r = cc in z) d.0.1
 

@@ -1,6 +1,6 @@
 -- Each trade is fair by the tally that goes with the floor.
 use Rattle.std.proofs.Common.{◌≡◌, ℕ, ◌+◌, ◌<◌, Bool, true, false, cond, ◌&&◌, ◌||◌, eqb, ◌⊎◌, List, [], ◌∷◌, Some, sym, refl, ◌∙◌, subst, inl, inr, arith}
-use Rattle.std.specs.List.{AllByRecursion as All, slice_get}
+use Rattle.std.specs.List.{AllByRecursion, slice_get}
 use Rattle.std.proofs.lemmas.Bool.{cond-true, both_ways, eq-eqb, or_left, or_right, leb-true, le-leb}
 use Rattle.std.proofs.ByRecursion.{All-weaker}
 use Rattle.std.proofs.lemmas.Bool.Decides.{nat_tests}
@@ -45,11 +45,11 @@ behind_key : (s : Side) (x o r : Price) → Low o → within s o r ≡ true → 
 behind_key Buy x o r l w b c = let k = leb-true (level r) (level o) w in omega (arith, b refl)
 behind_key Sell x o r l w b c = let k = leb-true (level o) (level r) w in omega (arith, c refl)
 
-all_behind : (s : Side) (o r : Order) (b : Both (List Order)) → o.side ≡ s → Low o.price → within s o.price r.price ≡ true → All (Sided s) (at s b) →
-    Clear (other s) b r → All (λ (x : Order). before (rank_of x) (rank_of o) ≡ false) (at s b)
+all_behind : (s : Side) (o r : Order) (b : Both (List Order)) → o.side ≡ s → Low o.price → within s o.price r.price ≡ true → AllByRecursion (Sided s) (at s b) →
+    Clear (other s) b r → AllByRecursion (λ (x : Order). before (rank_of x) (rank_of o) ≡ false) (at s b)
 all_behind Buy o r b e l w d c = go b.buy d c
   where
-    go : (k : List Order) → All (Sided Buy) k → All (λ (x : Order). level x.price < level r.price) k → All (λ (x : Order). before (rank_of x) (rank_of o) ≡ false) k
+    go : (k : List Order) → AllByRecursion (Sided Buy) k → AllByRecursion (λ (x : Order). level x.price < level r.price) k → AllByRecursion (λ (x : Order). before (rank_of x) (rank_of o) ≡ false) k
     go [] d h = tt
     go (x ∷ k) d h = (
       later_key (rank_of x) (rank_of o) (subst (λ (z : Side). order_key o.side o.price < order_key z x.price) (sym d.0.0)
@@ -62,8 +62,8 @@ all_behind Buy o r b e l w d c = go b.buy d c
         apart z = let u : ◌≡◌ {A = ℕ} 0 1 = cc in omega arith
 all_behind Sell o r b e l w d c = go b.sell d c
   where
-    go : (k : List Order) → All (Sided Sell) k → All (λ (x : Order). level r.price < level x.price) k →
-        All (λ (x : Order). before (rank_of x) (rank_of o) ≡ false) k
+    go : (k : List Order) → AllByRecursion (Sided Sell) k → AllByRecursion (λ (x : Order). level r.price < level x.price) k →
+        AllByRecursion (λ (x : Order). before (rank_of x) (rank_of o) ≡ false) k
     go [] d h = tt
     go (x ∷ k) d h = (
       later_key (rank_of x) (rank_of o) (subst (λ (z : Side). order_key o.side o.price < order_key z x.price) (sym d.0.0)
@@ -80,11 +80,11 @@ within_itself Buy p = le-leb (level p) (level p) (omega arith)
 within_itself Sell p = le-leb (level p) (level p) (omega arith)
 
 first_foremost : (s : Side) (r : Order) (q : Queues) → slice_get (at s q.stands) 0 ≡ Some r → Good q →
-    All (λ (x : Order). before (rank_of x) (rank_of r) ≡ false) (at s q.stands)
+    AllByRecursion (λ (x : Order). before (rank_of x) (rank_of r) ≡ false) (at s q.stands)
 first_foremost s r q e g =
     let n = nth_first (at s q.stands) r e in
     let h = subst (Sorted rank_of) n.1 (g.sorted s) in
-    subst (All (λ (x : Order). before (rank_of x) (rank_of r) ≡ false)) (sym n.1) (before_itself (rank_of r), h.0)
+    subst (AllByRecursion (λ (x : Order). before (rank_of x) (rank_of r) ≡ false)) (sym n.1) (before_itself (rank_of r), h.0)
 
 pub fair_trades : (o r : Order) (f : Floor) → Fits (trades o r) f → Sane f → (t : Tally) → Matches t f → Fair o.number r.number r.price t
 fair_trades o r f fit s t m =
@@ -99,7 +99,7 @@ fair_trades o r f fit s t m =
     (all_behind z o r f.queues.stands refl low fit.meets (s.good.sided z) (clear_nth (other z) 0 r f.queues fit.first s.good)) in
     let c : ahead_in t (row_of r) ≡ 0 = m.sums (λ q x. cond (stands_on r.side q x && before (order_rank x) (order_rank (row_of r))) 1 0) ∙ none_stands
     r.side (λ x. before (order_rank x) (order_rank (row_of r))) f s.good
-    (subst (λ (y : Side). All (λ (x : Order). before (rank_of x) (rank_of r) ≡ false) (at y f.queues.stands)) (sym d.0) (first_foremost (other z) r f.queues fit.first s.good)) in
+    (subst (λ (y : Side). AllByRecursion (λ (x : Order). before (rank_of x) (rank_of r) ≡ false) (at y f.queues.stands)) (sym d.0) (first_foremost (other z) r f.queues fit.first s.good)) in
     let b : outside p (row_of o) ≡ 0 = cond-true {A = ℕ} (within z o.price p) 0 1 fit.meets in
     let k : outside p (row_of r) ≡ 0 = cond-true {A = ℕ} (within r.side p p) 0 1 (within_itself r.side p) in
     let named : OrderRow → Bool = λ x. eqb x.number o.number || eqb x.number r.number in
@@ -113,7 +113,7 @@ fair_trades o r f fit s t m =
           (total_zero (λ a. cond (named a.order) (w a.place a.order) 0) t.accounts zero-sum);
     }
   where
-    total_zero : {X : Type 0} (g : X → ℕ) (l : List X) → total g l ≡ 0 → All (λ x. g x ≡ 0) l
+    total_zero : {X : Type 0} (g : X → ℕ) (l : List X) → total g l ≡ 0 → AllByRecursion (λ x. g x ≡ 0) l
     total_zero g [] e = tt
     total_zero g (x ∷ l) e = (omega arith, total_zero g l (omega arith))
 

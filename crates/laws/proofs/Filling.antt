@@ -1,6 +1,6 @@
 -- An incoming order trades at least what it reaches, or all that it has.
 use Rattle.std.proofs.Common.{◌≡◌, ℕ, zero, suc, ◌+◌, ◌-◌, ◌<◌, ◌≤◌, min, Bool, true, false, cond, eqb, List, [], ◌∷◌, ◌++◌, Some, None, Option, sym, refl, ap, ◌∙◌, subst, ⊎_elim, arith}
-use Rattle.std.specs.List.{remove, AllByRecursion as All, slice_get}
+use Rattle.std.specs.List.{remove, AllByRecursion, slice_get}
 use Rattle.std.specs.Option.{option_map}
 use Rattle.std.proofs.lemmas.Bool.{cond-true, cond-false, eq-eqb, ne_eqb, cases_lt, and_from}
 use Rattle.orders.specs.declared.side.Side.{Side}
@@ -90,11 +90,11 @@ module _ (turn lots : ℕ) (o : Order) where
   same_reach l = ap (λ m. reach_by m (renewed turn lots o) l) (same_own l) ∙ same_by (own_price o l) l
 
 -- who stands has an early turn
-all_early : (stamp : ℕ) (l : List Order) → total (late stamp stands) l ≡ 0 → All (λ (y : Order). y.turn < stamp) l
+all_early : (stamp : ℕ) (l : List Order) → total (late stamp stands) l ≡ 0 → AllByRecursion (λ (y : Order). y.turn < stamp) l
 all_early stamp [] e = tt
 all_early stamp (y ∷ l) e = (is_early stamp stands y (omega arith), all_early stamp l (omega arith))
 
-pub early_stands : (s : Side) (f : Floor) → everywhere (late f.clock.stamp) f ≡ 0 → All (λ (y : Order). y.turn < f.clock.stamp) (at s f.queues.stands)
+pub early_stands : (s : Side) (f : Floor) → everywhere (late f.clock.stamp) f ≡ 0 → AllByRecursion (λ (y : Order). y.turn < f.clock.stamp) (at s f.queues.stands)
 early_stands Buy f e = all_early f.clock.stamp f.queues.stands.buy (omega arith)
 early_stands Sell f e = all_early f.clock.stamp f.queues.stands.sell (omega arith)
 
@@ -160,11 +160,11 @@ settle_trades (suc k) f o s h w m = go (at (other o.side) f.queues.stands) refl 
         sorted : Sorted rank_of (r ∷ rest)
         sorted = subst (Sorted rank_of) e (s.good.sorted (other o.side))
 
-        sided : All (Sided (other o.side)) (r ∷ rest)
-        sided = subst (All (Sided (other o.side))) e (s.good.sided (other o.side))
+        sided : AllByRecursion (Sided (other o.side)) (r ∷ rest)
+        sided = subst (AllByRecursion (Sided (other o.side))) e (s.good.sided (other o.side))
 
-        early : All (λ (y : Order). y.turn < f.clock.stamp) (r ∷ rest)
-        early = subst (All (λ (y : Order). y.turn < f.clock.stamp)) e (early_stands (other o.side) f s.early)
+        early : AllByRecursion (λ (y : Order). y.turn < f.clock.stamp) (r ∷ rest)
+        early = subst (AllByRecursion (λ (y : Order). y.turn < f.clock.stamp)) e (early_stands (other o.side) f s.early)
 
         trade : within o.side o.price r.price ≡ true → same_investor o r ≡ false →
             min o.leaves (reach o (r ∷ rest)) + traded_on o.number f ≤ traded_on o.number (settle (suc k) f)

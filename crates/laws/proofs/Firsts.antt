@@ -1,6 +1,6 @@
 -- Who stands in the tally, and that its first price of a side is the first price of the queue.
 use Rattle.std.proofs.Common.{◌≡◌, ℕ, ◌+◌, ◌≤◌, Bool, true, false, cond, ◌&&◌, List, [], ◌∷◌, Some, None, Option, sym, refl, ap, ◌∙◌, subst, ⊎_elim, arith}
-use Rattle.std.specs.List.{AllByRecursion as All}
+use Rattle.std.specs.List.{AllByRecursion}
 use Rattle.std.proofs.lemmas.Bool.{cond_both, cond-true, cond-false, both_ways, eq-eqb, ne_eqb, cases_eq, le-ltb}
 use Rattle.std.proofs.lemmas.Bool.Decides.{nat_tests}
 use Rattle.orders.specs.declared.side.Side.{Side}
@@ -30,7 +30,7 @@ one_side Buy Sell b h = refl
 one_side Sell Buy b h = refl
 one_side Sell Sell b h = rw (h refl) refl
 
-none_in_queue : (z s : Side) (q : OrderRow → Bool) (l : List Order) → All (Sided s) l → (s ≡ z → All (λ x. q (row_of x) ≡ false) l) →
+none_in_queue : (z s : Side) (q : OrderRow → Bool) (l : List Order) → AllByRecursion (Sided s) l → (s ≡ z → AllByRecursion (λ x. q (row_of x) ≡ false) l) →
     total (λ (x : Order). cond (same_side x.side z && q (row_of x)) 1 0) l ≡ 0
 none_in_queue z s q [] d h = refl
 none_in_queue z s q (x ∷ l) d h =
@@ -38,14 +38,14 @@ none_in_queue z s q (x ∷ l) d h =
     (sym d.0.0) (one_side z s (q (row_of x)) (λ e. (h e).0)) in
     omega (arith, none_in_queue z s q l d.1 (λ e. (h e).1))
 
-pub none_stands : (z : Side) (q : OrderRow → Bool) (f : Floor) → Good f.queues → All (λ x. q (row_of x) ≡ false) (at z f.queues.stands) →
+pub none_stands : (z : Side) (q : OrderRow → Bool) (f : Floor) → Good f.queues → AllByRecursion (λ x. q (row_of x) ≡ false) (at z f.queues.stands) →
     everywhere (by_row (λ p r. cond (stands_on z p r && q r) 1 0)) f ≡ 0
 none_stands z q f g h =
     let k : View = λ p r. cond (stands_on z p r && q r) 1 0 in
     let a : total (by_row k stands) f.queues.stands.buy ≡ 0 = none_in_queue z Buy q f.queues.stands.buy (g.sided Buy)
-    (λ e. subst (λ (s : Side). All (λ x. q (row_of x) ≡ false) (at s f.queues.stands)) (sym e) h) in
+    (λ e. subst (λ (s : Side). AllByRecursion (λ x. q (row_of x) ≡ false) (at s f.queues.stands)) (sym e) h) in
     let b : total (by_row k stands) f.queues.stands.sell ≡ 0 = none_in_queue z Sell q f.queues.stands.sell (g.sided Sell)
-    (λ e. subst (λ (s : Side). All (λ x. q (row_of x) ≡ false) (at s f.queues.stands)) (sym e) h) in
+    (λ e. subst (λ (s : Side). AllByRecursion (λ x. q (row_of x) ≡ false) (at s f.queues.stands)) (sym e) h) in
     let c : total (of_stop (by_row k)) f.queues.waits.buy ≡ 0 = total_none f.queues.waits.buy in
     let d : total (of_stop (by_row k)) f.queues.waits.sell ≡ 0 = total_none f.queues.waits.sell in
     let e : of_hand (by_row k incoming) f.hand ≡ 0 = at_hand f.hand in
@@ -135,8 +135,8 @@ no_better_key : (s : Side) (p q : Price) → Low p → Low q → order_key s p �
 no_better_key Buy p q lp lq h = le-ltb (level p) (level q) (omega arith)
 no_better_key Sell p q lp lq h = le-ltb (level q) (level p) (omega arith)
 
-pub none_better : (s : Side) (r : Order) (l : List Order) → Sided s r → All (Sided s) l → All (λ y. before (rank_of y) (rank_of r) ≡ false) l →
-    All (λ (x : Order). better s x.price r.price ≡ false) l
+pub none_better : (s : Side) (r : Order) (l : List Order) → Sided s r → AllByRecursion (Sided s) l → AllByRecursion (λ y. before (rank_of y) (rank_of r) ≡ false) l →
+    AllByRecursion (λ (x : Order). better s x.price r.price ≡ false) l
 none_better s r [] dr d h = tt
 none_better s r (x ∷ l) dr d h =
     let k : order_key r.side r.price ≤ order_key x.side x.price = ranks_lower (rank_of r) (rank_of x) h.0 in (
@@ -157,14 +157,14 @@ pub first_price_is : (s : Side) (f : Floor) (t : Tally) → Good f.queues → Ma
 first_price_is s f t g m = go (at s f.queues.stands) refl
   where
     go : (l : List Order) → at s f.queues.stands ≡ l → first_price s t.accounts ≡ first_of l
-    go [] e = first_none s t.accounts (m.sums (λ p r. cond (stands_on s p r && true) 1 0) ∙ none_stands s (λ _. true) f g (subst (All (λ (x : Order). true ≡ false)) (sym e) tt))
+    go [] e = first_none s t.accounts (m.sums (λ p r. cond (stands_on s p r && true) 1 0) ∙ none_stands s (λ _. true) f g (subst (AllByRecursion (λ (x : Order). true ≡ false)) (sym e) tt))
     go (r ∷ rest) e =
         let p : Price = r.price in
-        let d = subst (All (Sided s)) e (g.sided s) in
+        let d = subst (AllByRecursion (Sided s)) e (g.sided s) in
         let o = subst (Sorted rank_of) e (g.sorted s) in
         let w : View = λ q x. cond (stands_on s q x && same_price x.price p) 1 0 in
         let one : by_row w stands r ≡ 1 = rw (d.0.0, side_itself s, eq-eqb (level p) (level p) refl) refl in
         first_is s p t.accounts
         (m.sums (λ q x. cond (stands_on s q x && better s x.price p) 1 0) ∙ none_stands s (λ x. better s x.price p) f g
-        (subst (All (λ (x : Order). better s x.price p ≡ false)) (sym e) (better_itself s p, none_better s r rest d.0 d.1 o.0)))
+        (subst (AllByRecursion (λ (x : Order). better s x.price p ≡ false)) (sym e) (better_itself s p, none_better s r rest d.0 d.1 o.0)))
         (omega (arith, m.sums w, some_stands (by_row w) s r rest f e))

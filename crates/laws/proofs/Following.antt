@@ -1,6 +1,6 @@
 -- What is next fits, there is room for it, and so one event follows another until nothing is next.
 use Rattle.std.proofs.Common.{◌≡◌, ℕ, zero, suc, ◌+◌, ◌<◌, ◌≤◌, Bool, true, false, cond, ltb, List, [], ◌∷◌, length, is_some, Some, None, Option, sym, refl, ap, ◌∙◌, subst, arith, length-append}
-use Rattle.std.specs.List.{AllByRecursion as All, slice_get}
+use Rattle.std.specs.List.{AllByRecursion, slice_get}
 use Rattle.std.specs.Option.{option_map}
 use Rattle.std.proofs.lemmas.Bool.{cond_both, ltb-true}
 use Rattle.orders.specs.declared.side.Side.{Side}
@@ -114,7 +114,7 @@ next_meets o (r ∷ rest) f h e g =
     cond_both (within o.side o.price r.price) (cond (same_investor o r) (drops OwnInvestor o) (trades o r)) (leftover o f.queues) (λ e. Next e f)
     (λ w. cond_both (same_investor o r) (drops OwnInvestor o) (trades o r) (λ e. Next e f) (λ _. (h, tt)) (λ _. (record { in_hand = h; first = ap (λ l. slice_get l 0) e; meets = w }, tt)))
     (λ w. next_leftover o f h (subst (Beyond o.side o.price) (sym e) (beyond_first o.side o.price r rest (subst (Sorted rank_of) e (g.sorted s))
-    (subst (All (Sided s)) e (g.sided s)) w)))
+    (subst (AllByRecursion (Sided s)) e (g.sided s)) w)))
 
 -- a ripe first stop is the first of its queue
 ripe_first : (s : Side) (last : Option Price) (l : List Stop) (x : Stop) → if_ripe s last (stop_in (option_map Waiting (slice_get l 0))) ≡ Some x → slice_get l 0 ≡ Some x
@@ -209,8 +209,8 @@ unripe_behind s (Some p) x y dx dy b e =
     (record { key = stop_key s x.trigger; turn = x.order.turn; number = x.order.number }) ≡ false) dy.0
     (subst (λ z. before (stop_rank_of y) (record { key = stop_key z x.trigger; turn = x.order.turn; number = x.order.number }) ≡ false) dx.0 b))
 
-unripe_list : (s : Side) (last : Option Price) (l : List Stop) → Sorted stop_rank_of l → All (StopSided s) l →
-    if_ripe s last (stop_in (option_map Waiting (slice_get l 0))) ≡ None → All (λ (x : Stop). ripe s last x.trigger ≡ false) l
+unripe_list : (s : Side) (last : Option Price) (l : List Stop) → Sorted stop_rank_of l → AllByRecursion (StopSided s) l →
+    if_ripe s last (stop_in (option_map Waiting (slice_get l 0))) ≡ None → AllByRecursion (λ (x : Stop). ripe s last x.trigger ≡ false) l
 unripe_list s last [] h d e = tt
 unripe_list s last (x ∷ l) h d e = let u = go (ripe s last x.trigger) refl e in (u, behind l h.0 d.1 u)
   where
@@ -218,8 +218,8 @@ unripe_list s last (x ∷ l) h d e = let u = go (ripe s last x.trigger) refl e i
     go true k z = let u : ◌≡◌ {A = ℕ} 0 1 = cc in absurd (omega arith)
     go false k z = k
 
-    behind : (l : List Stop) → All (λ y. before (stop_rank_of y) (stop_rank_of x) ≡ false) l → All (StopSided s) l → ripe s last x.trigger ≡ false →
-        All (λ (x : Stop). ripe s last x.trigger ≡ false) l
+    behind : (l : List Stop) → AllByRecursion (λ y. before (stop_rank_of y) (stop_rank_of x) ≡ false) l → AllByRecursion (StopSided s) l → ripe s last x.trigger ≡ false →
+        AllByRecursion (λ (x : Stop). ripe s last x.trigger ≡ false) l
     behind [] b c u = tt
     behind (y ∷ l) b c u = (unripe_behind s last x y d.0 c.0 b.0 u, behind l b.1 c.1 u)
 

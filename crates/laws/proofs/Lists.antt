@@ -1,6 +1,6 @@
 -- Lists in rank order: what a take, a put and a rewrite leave of sums, of what holds of each, and of the order.
 use Rattle.std.proofs.Common.{◌≡◌, ℕ, zero, suc, ◌+◌, Bool, true, false, cond, not, eqb, ltb, List, [], ◌∷◌, length, set, Some, None, Option, sym, refl, ap, ◌∙◌, subst, arith}
-use Rattle.std.specs.List.{remove, insert, AllByRecursion as All, slice_get}
+use Rattle.std.specs.List.{remove, insert, AllByRecursion, slice_get}
 use Rattle.std.proofs.lemmas.Bool.{cond_both, both_ways, cond-false, le-ltb}
 use Rattle.std.proofs.ByRecursion.{All-weaker}
 use Rattle.std.proofs.lemmas.Bool.Decides.{nat_tests}
@@ -13,7 +13,7 @@ use Rattle.matching.specs.Next.{total}
 -- nothing further back ranks ahead
 abbrev pub Sorted : {X : Type 0} → (X → Rank) → List X → Type 0
 Sorted f [] = Unit {0}
-Sorted f (x ∷ l) = All (λ y. before (f y) (f x) ≡ false) l × Sorted f l
+Sorted f (x ∷ l) = AllByRecursion (λ y. before (f y) (f x) ≡ false) l × Sorted f l
 
 nothing : {A : Type 0} {X : Type 0} (x : X) → ◌≡◌ {A = Option X} None (Some x) → A
 nothing x e = let z : ◌≡◌ {A = ℕ} 0 1 = cc in absurd (omega arith)
@@ -30,13 +30,13 @@ length_taken [] i x e = nothing x e
 length_taken (y ∷ l) zero x e = refl
 length_taken (y ∷ l) (suc i) x e = ap suc (length_taken l i x e)
 
-pub all_removed : {X : Type 0} (P : X → Type 0) (l : List X) (i : ℕ) → All P l → All P (remove l i)
+pub all_removed : {X : Type 0} (P : X → Type 0) (l : List X) (i : ℕ) → AllByRecursion P l → AllByRecursion P (remove l i)
 all_removed P [] zero h = h
 all_removed P [] (suc i) h = h
 all_removed P (y ∷ l) zero h = h.1
 all_removed P (y ∷ l) (suc i) h = (h.0, all_removed P l i h.1)
 
-pub all_nth : {X : Type 0} (P : X → Type 0) (l : List X) (i : ℕ) (x : X) → slice_get l i ≡ Some x → All P l → P x
+pub all_nth : {X : Type 0} (P : X → Type 0) (l : List X) (i : ℕ) (x : X) → slice_get l i ≡ Some x → AllByRecursion P l → P x
 all_nth P [] i x e h = nothing x e
 all_nth P (y ∷ l) zero x e h = let z : y ≡ x = cc in subst P z h.0
 all_nth P (y ∷ l) (suc i) x e h = all_nth P l i x e h.1
@@ -68,10 +68,10 @@ length_put_in f x (y ∷ l) =
     let ih = length_put_in f x l in
     rw (put_in_cons f x y l) (cond_both (before (f x) (f y)) (x ∷ y ∷ l) (y ∷ put_in f x l) (λ z. length z ≡ suc (suc (length l))) (λ _. refl) (λ _. ap suc ih))
 
-pub all_put_in : {X : Type 0} (f : X → Rank) (P : X → Type 0) (x : X) (l : List X) → P x → All P l → All P (put_in f x l)
+pub all_put_in : {X : Type 0} (f : X → Rank) (P : X → Type 0) (x : X) (l : List X) → P x → AllByRecursion P l → AllByRecursion P (put_in f x l)
 all_put_in f P x [] p h = (p, tt)
 all_put_in f P x (y ∷ l) p h =
-    subst (All P) (sym (put_in_cons f x y l)) (cond_both (before (f x) (f y)) (x ∷ y ∷ l) (y ∷ put_in f x l) (All P) (λ _. (p, h)) (λ _. (h.0, all_put_in f P x l p h.1)))
+    subst (AllByRecursion P) (sym (put_in_cons f x y l)) (cond_both (before (f x) (f y)) (x ∷ y ∷ l) (y ∷ put_in f x l) (AllByRecursion P) (λ _. (p, h)) (λ _. (h.0, all_put_in f P x l p h.1)))
 
 before_one_way : (a b : Rank) → before a b ≡ true → before b a ≡ false
 before_one_way a b h = grind (arith, nat_tests)
@@ -106,14 +106,14 @@ length_rewritten [] i y = refl
 length_rewritten (z ∷ l) zero y = refl
 length_rewritten (z ∷ l) (suc i) y = ap suc (length_rewritten l i y)
 
-pub all_rewritten : {X : Type 0} (P : X → Type 0) (l : List X) (i : ℕ) (y : X) → P y → All P l → All P (set l i y)
+pub all_rewritten : {X : Type 0} (P : X → Type 0) (l : List X) (i : ℕ) (y : X) → P y → AllByRecursion P l → AllByRecursion P (set l i y)
 all_rewritten P [] i y p h = h
 all_rewritten P (z ∷ l) zero y p h = (p, h.1)
 all_rewritten P (z ∷ l) (suc i) y p h = (h.0, all_rewritten P l i y p h.1)
 
 pub sorted_set : {X : Type 0} (f : X → Rank) (l : List X) (i : ℕ) (x y : X) → slice_get l i ≡ Some x → f y ≡ f x → Sorted f l → Sorted f (set l i y)
 sorted_set f [] i x y e k h = h
-sorted_set f (z ∷ l) zero x y e k h = let w : f z ≡ f y = ap f (let u : z ≡ x = cc in u) ∙ sym k in (subst (λ r. All (λ y. before (f y) r ≡ false) l) w h.0, h.1)
+sorted_set f (z ∷ l) zero x y e k h = let w : f z ≡ f y = ap f (let u : z ≡ x = cc in u) ∙ sym k in (subst (λ r. AllByRecursion (λ y. before (f y) r ≡ false) l) w h.0, h.1)
 sorted_set f (z ∷ l) (suc i) x y e k h = (
   all_rewritten (λ v. before (f v) (f z) ≡ false) l i y (subst (λ r. before r (f z) ≡ false) (sym k)
       (all_nth (λ v. before (f v) (f z) ≡ false) l i x e h.0)) h.0,

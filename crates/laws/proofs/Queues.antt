@@ -1,6 +1,6 @@
 -- Good queues: within their capacities, in rank order, each record in the queue of its side, and no bid at or above an offer.
 use Rattle.std.proofs.Common.{◌≡◌, ℕ, ◌<◌, ◌≤◌, false, leb, List, [], ◌∷◌, length, set, Some, sym, refl, ap, subst, arith}
-use Rattle.std.specs.List.{remove, AllByRecursion as All, slice_get}
+use Rattle.std.specs.List.{remove, AllByRecursion, slice_get}
 use Rattle.std.proofs.lemmas.Bool.{leb-false, lt-leb}
 use Rattle.std.proofs.ByRecursion.{All-weaker}
 use Rattle.std.proofs.lemmas.Bool.Decides.{nat_tests}
@@ -43,8 +43,8 @@ pub record Good (q : Queues) : Type 0 where
   pub bounded : (n : Queue) → count n q ≤ room n q
   pub sorted : (s : Side) → Sorted rank_of (at s q.stands)
   pub stops_sorted : (s : Side) → Sorted stop_rank_of (at s q.waits)
-  pub sided : (s : Side) → All (Sided s) (at s q.stands)
-  pub stops_sided : (s : Side) → All (StopSided s) (at s q.waits)
+  pub sided : (s : Side) → AllByRecursion (Sided s) (at s q.stands)
+  pub stops_sided : (s : Side) → AllByRecursion (StopSided s) (at s q.waits)
   pub uncrossed : Uncrossed q.stands
 
 -- one side changes, and the other stays
@@ -60,48 +60,48 @@ at_own Sell a b = refl
 
 -- an order of this side meets nobody of the other
 abbrev pub Clear : Side → Both (List Order) → Order → Type 0
-Clear Buy b o = All (λ (y : Order). level o.price < level y.price) b.sell
-Clear Sell b o = All (λ (x : Order). level x.price < level o.price) b.buy
+Clear Buy b o = AllByRecursion (λ (y : Order). level o.price < level y.price) b.sell
+Clear Sell b o = AllByRecursion (λ (x : Order). level x.price < level o.price) b.buy
 
-pub all_any : {X : Type 0} (P : X → Type 0) → ((x : X) → P x) → (l : List X) → All P l
+pub all_any : {X : Type 0} (P : X → Type 0) → ((x : X) → P x) → (l : List X) → AllByRecursion P l
 all_any P h [] = tt
 all_any P h (x ∷ l) = (h x, all_any P h l)
 
-all_both : {X : Type 0} (P Q : X → Type 0) (l : List X) → All P l → All Q l → All (λ x. P x × Q x) l
+all_both : {X : Type 0} (P Q : X → Type 0) (l : List X) → AllByRecursion P l → AllByRecursion Q l → AllByRecursion (λ x. P x × Q x) l
 all_both P Q [] h k = tt
 all_both P Q (x ∷ l) h k = ((h.0, k.0), all_both P Q l h.1 k.1)
 
-all_flip : {X Y : Type 0} (R : X → Y → Type 0) (k : List X) (l : List Y) → All (λ x. All (R x) l) k → All (λ y. All (λ x. R x y) k) l
+all_flip : {X Y : Type 0} (R : X → Y → Type 0) (k : List X) (l : List Y) → AllByRecursion (λ x. AllByRecursion (R x) l) k → AllByRecursion (λ y. AllByRecursion (λ x. R x y) k) l
 all_flip R [] l h = all_any (λ y. Unit {0}) (λ _. tt) l
-all_flip R (x ∷ k) l h = all_both (R x) (λ y. All (λ x. R x y) k) l h.0 (all_flip R k l h.1)
+all_flip R (x ∷ k) l h = all_both (R x) (λ y. AllByRecursion (λ x. R x y) k) l h.0 (all_flip R k l h.1)
 
-all_clear : (s : Side) (b : Both (List Order)) → Uncrossed b → All (Clear s b) (at s b)
+all_clear : (s : Side) (b : Both (List Order)) → Uncrossed b → AllByRecursion (Clear s b) (at s b)
 all_clear Buy b h = h
 all_clear Sell b h = all_flip (λ (x y : Order). level x.price < level y.price) b.buy b.sell h
 
-uncrossed_with : (s : Side) (l : List Order) (b : Both (List Order)) → All (Clear s b) l → Uncrossed (with_at s l b)
+uncrossed_with : (s : Side) (l : List Order) (b : Both (List Order)) → AllByRecursion (Clear s b) l → Uncrossed (with_at s l b)
 uncrossed_with Buy l b h = h
 uncrossed_with Sell l b h = all_flip (λ (y x : Order). level x.price < level y.price) l b.buy h
 
-pub good_stands : (s : Side) (l : List Order) (q : Queues) → Good q → length l ≤ at s q.stands_room → Sorted rank_of l → All (Sided s) l →
-    All (Clear s q.stands) l → Good (with_stands s l q)
+pub good_stands : (s : Side) (l : List Order) (q : Queues) → Good q → length l ≤ at s q.stands_room → Sorted rank_of l → AllByRecursion (Sided s) l →
+    AllByRecursion (Clear s q.stands) l → Good (with_stands s l q)
 good_stands s l q g n o d c = record {
   bounded = elim [ Orders t ↦ at_with (λ t l. length l ≤ at t q.stands_room) s l q.stands n (λ t. g.bounded (Orders t)) t | Stops t ↦ g.bounded (Stops t) ];
   sorted = at_with (λ t l. Sorted rank_of l) s l q.stands o g.sorted;
   stops_sorted = g.stops_sorted;
-  sided = at_with (λ t l. All (Sided t) l) s l q.stands d g.sided;
+  sided = at_with (λ t l. AllByRecursion (Sided t) l) s l q.stands d g.sided;
   stops_sided = g.stops_sided;
   uncrossed = uncrossed_with s l q.stands c;
 }
 
-pub good_waits : (s : Side) (l : List Stop) (q : Queues) → Good q → length l ≤ at s q.waits_room → Sorted stop_rank_of l → All (StopSided s) l →
+pub good_waits : (s : Side) (l : List Stop) (q : Queues) → Good q → length l ≤ at s q.waits_room → Sorted stop_rank_of l → AllByRecursion (StopSided s) l →
     Good (with_waits s l q)
 good_waits s l q g n o d = record {
   bounded = elim [ Orders t ↦ g.bounded (Orders t) | Stops t ↦ at_with (λ t l. length l ≤ at t q.waits_room) s l q.waits n (λ t. g.bounded (Stops t)) t ];
   sorted = g.sorted;
   stops_sorted = at_with (λ t l. Sorted stop_rank_of l) s l q.waits o g.stops_sorted;
   sided = g.sided;
-  stops_sided = at_with (λ t l. All (StopSided t) l) s l q.waits d g.stops_sided;
+  stops_sided = at_with (λ t l. AllByRecursion (StopSided t) l) s l q.waits d g.stops_sided;
   uncrossed = g.uncrossed;
 }
 
@@ -145,8 +145,8 @@ pub same_order_rank : (x o : Order) → SamePlace x o → rank_of o ≡ rank_of 
 same_order_rank x o h = rw (h.side, h.price, h.turn, h.number) refl
 
 pub same_clear : (s : Side) (b : Both (List Order)) (x o : Order) → o.price ≡ x.price → Clear s b x → Clear s b o
-same_clear Buy b x o e h = subst (λ p. All (λ (y : Order). level p < level y.price) b.sell) (sym e) h
-same_clear Sell b x o e h = subst (λ p. All (λ (y : Order). level y.price < level p) b.buy) (sym e) h
+same_clear Buy b x o e h = subst (λ p. AllByRecursion (λ (y : Order). level p < level y.price) b.sell) (sym e) h
+same_clear Sell b x o e h = subst (λ p. AllByRecursion (λ (y : Order). level y.price < level p) b.buy) (sym e) h
 
 pub good_set : (i : ℕ) (x o : Order) (q : Queues) → slice_get (at o.side q.stands) i ≡ Some x → SamePlace x o → Good q → Good (record_set i (Standing o) q)
 good_set i x o q e h g =
@@ -168,7 +168,7 @@ clear_own Sell l b o h = h
 
 -- a limit meets none of these
 abbrev pub Beyond : Side → Price → List Order → Type 0
-Beyond s limit l = All (λ (a : Order). within s limit a.price ≡ false) l
+Beyond s limit l = AllByRecursion (λ (a : Order). within s limit a.price ≡ false) l
 
 pub clear_beyond : (o : Order) (s : Side) (b : Both (List Order)) → Beyond s o.price (at (other s) b) → Clear s b o
 clear_beyond o Buy b h = All-weaker (λ (a : Order). leb (level a.price) (level o.price) ≡ false) (λ (a : Order). level o.price < level a.price)
@@ -196,7 +196,7 @@ pub no_riper : (s : Side) (last p p' : Price) (t n t' n' : ℕ) → Low p → Lo
 no_riper Buy last p p' t n t' n' l l' h k = no_better Buy last p p' t n t' n' l l' h k
 no_riper Sell last p p' t n t' n' l l' h k = no_better Sell last p p' t n t' n' l l' h k
 
-pub beyond_first : (s : Side) (limit : Price) (r : Order) (rest : List Order) → Sorted rank_of (r ∷ rest) → All (Sided (other s)) (r ∷ rest) →
+pub beyond_first : (s : Side) (limit : Price) (r : Order) (rest : List Order) → Sorted rank_of (r ∷ rest) → AllByRecursion (Sided (other s)) (r ∷ rest) →
     within s limit r.price ≡ false → Beyond s limit (r ∷ rest)
 beyond_first s limit r rest h d e = (
   e,

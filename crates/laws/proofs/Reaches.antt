@@ -1,6 +1,6 @@
 -- Reach falls by what is traded, and ends where trading ends.
 use Rattle.std.proofs.Common.{◌≡◌, ℕ, zero, suc, ◌+◌, ◌-◌, ◌<◌, ◌≤◌, Bool, true, false, cond, eqb, ◌⊎◌, List, [], ◌∷◌, Some, None, Option, sym, refl, ap, ◌∙◌, subst, inl, inr, ⊎_elim, arith}
-use Rattle.std.specs.List.{AllByRecursion as All}
+use Rattle.std.specs.List.{AllByRecursion}
 use Rattle.std.proofs.lemmas.Bool.{cond_both, cond-true, cond-false, and_left, and_right, eqb-true, eqb-false, eq-eqb, lt-ltb, cases_eq, and_from}
 use Rattle.std.proofs.lemmas.Bool.Decides.{nat_tests}
 use Rattle.orders.specs.declared.side.Side.{Side}
@@ -33,7 +33,7 @@ open_put : (o : Order) (m : Option Price) (x : Order) (l : List Order) → open_
 open_put o m x l =
     open_total o m (put_in rank_of x l) ∙ (total_put_in rank_of (λ (r : Order). cond (counts o m r) r.leaves 0) x l ∙ ap (λ n. cond (counts o m x) x.leaves 0 + n) (sym (open_total o m l)))
 
-none_open : (o : Order) (m : Option Price) (l : List Order) → All (λ r. counts o m r ≡ false) l → open_lots o m l ≡ 0
+none_open : (o : Order) (m : Option Price) (l : List Order) → AllByRecursion (λ r. counts o m r ≡ false) l → open_lots o m l ≡ 0
 none_open o m [] h = refl
 none_open o m (r ∷ l) h = let z : cond (counts o m r) r.leaves 0 ≡ 0 = cond-false (counts o m r) r.leaves 0 h.0 in omega (arith, none_open o m l h.1)
 
@@ -46,7 +46,7 @@ pub reach_beyond : (o : Order) (l : List Order) → Beyond o.side o.price l → 
 reach_beyond o l h = ap (λ m. reach_by m o l) (no_own o l h) ∙ none_open o None l h
 
 -- the first is of the own investor
-pub reach_own : (o r : Order) (l : List Order) → own o r ≡ true → Sorted rank_of (r ∷ l) → All (Sided (other o.side)) (r ∷ l) → reach o (r ∷ l) ≡ 0
+pub reach_own : (o r : Order) (l : List Order) → own o r ≡ true → Sorted rank_of (r ∷ l) → AllByRecursion (Sided (other o.side)) (r ∷ l) → reach o (r ∷ l) ≡ 0
 reach_own o r l e h d =
     let p : Price = r.price in
     let z : Side = other o.side in
@@ -76,8 +76,8 @@ shown_apart o x p (y ∷ l) e k =
     (λ _. ap (λ n. cond (own o y) 0 (cond (same_price y.price p) y.shown 0 + n)) (shown_apart o x p l e k))
 
 -- who stands before the first of the own investor is priced no worse
-own_behind : (z : Side) (o : Order) (p : Price) (k : Rank) (l : List Order) → own_price o l ≡ Some p → All (Sided z) l →
-    All (λ y. before (rank_of y) k ≡ false) l → k.key ≤ order_key z p
+own_behind : (z : Side) (o : Order) (p : Price) (k : Rank) (l : List Order) → own_price o l ≡ Some p → AllByRecursion (Sided z) l →
+    AllByRecursion (λ y. before (rank_of y) k ≡ false) l → k.key ≤ order_key z p
 own_behind z o p k [] e d h = let u : ◌≡◌ {A = ℕ} 0 1 = cc in absurd (omega arith)
 own_behind z o p k (y ∷ l) e d h = go (own o y) e (λ q. own_behind z o p k l q d.1 h.1)
   where
@@ -92,8 +92,8 @@ behind_all : (a b : Rank) → b.key ≤ a.key → b.turn < a.turn → before a b
 behind_all a b h k = grind (arith, nat_tests)
 
 -- an order that goes behind its price goes behind the first of the own investor there
-shown_behind : (z : Side) (o x : Order) (p : Price) (l : List Order) → own_price o l ≡ Some p → Sorted rank_of l → All (Sided z) l →
-    All (λ (y : Order). y.turn < x.turn) l → order_key x.side x.price ≡ order_key z p →
+shown_behind : (z : Side) (o x : Order) (p : Price) (l : List Order) → own_price o l ≡ Some p → Sorted rank_of l → AllByRecursion (Sided z) l →
+    AllByRecursion (λ (y : Order). y.turn < x.turn) l → order_key x.side x.price ≡ order_key z p →
     shown_ahead o p (put_in rank_of x l) ≡ shown_ahead o p l
 shown_behind z o x p [] e h d t k = let u : ◌≡◌ {A = ℕ} 0 1 = cc in absurd (omega arith)
 shown_behind z o x p (y ∷ l) e h d t k = go (own o y) refl e (shown_behind z o x p l)
@@ -108,7 +108,7 @@ shown_behind z o x p (y ∷ l) e h d t k = go (own o y) refl e (shown_behind z o
     own_key q = subst (λ (u : Price). order_key y.side y.price ≤ order_key z u) q (subst (λ (s : Side). order_key y.side y.price ≤ order_key s y.price) d.0.0 (omega arith))
 
     go : (b : Bool) → own o y ≡ b → cond b (Some y.price) (own_price o l) ≡ Some p →
-        (own_price o l ≡ Some p → Sorted rank_of l → All (Sided z) l → All (λ (y : Order). y.turn < x.turn) l → order_key x.side
+        (own_price o l ≡ Some p → Sorted rank_of l → AllByRecursion (Sided z) l → AllByRecursion (λ (y : Order). y.turn < x.turn) l → order_key x.side
         x.price ≡ order_key z p → shown_ahead o p (put_in rank_of x l) ≡ shown_ahead o p l) →
         shown_ahead o p (put_in rank_of x (y ∷ l)) ≡ shown_ahead o p (y ∷ l)
     go true w q ih =
@@ -129,7 +129,7 @@ better_not_same : (s : Side) (p q : Price) → better s p q ≡ true → same_pr
 better_not_same Buy p q h = grind (arith, nat_tests)
 better_not_same Sell p q h = grind (arith, nat_tests)
 
-own_low : (z : Side) (o : Order) (p : Price) (l : List Order) → own_price o l ≡ Some p → All (Sided z) l → Low p
+own_low : (z : Side) (o : Order) (p : Price) (l : List Order) → own_price o l ≡ Some p → AllByRecursion (Sided z) l → Low p
 own_low z o p [] e d = let u : ◌≡◌ {A = ℕ} 0 1 = cc in absurd (omega arith)
 own_low z o p (y ∷ l) e d = go (own o y) e (λ q. own_low z o p l q d.1)
   where
@@ -140,7 +140,7 @@ own_low z o p (y ∷ l) e d = go (own o y) e (λ q. own_low z o p l q d.1)
 -- what is traded with the first comes off the reach
 
 module _ (o r : Order) (l : List Order) (turn : ℕ) (w : within o.side o.price r.price ≡ true) (n : same_investor o r ≡ false)
-    (h : Sorted rank_of (r ∷ l)) (d : All (Sided (other o.side)) (r ∷ l)) (t : All (λ (y : Order). y.turn < turn) l) where
+    (h : Sorted rank_of (r ∷ l)) (d : AllByRecursion (Sided (other o.side)) (r ∷ l)) (t : AllByRecursion (λ (y : Order). y.turn < turn) l) where
   not_own : own o r ≡ false
   not_own = and_left (same_investor o r) (within o.side o.price r.price) n
 
@@ -211,7 +211,7 @@ module _ (o r : Order) (l : List Order) (turn : ℕ) (w : within o.side o.price 
 
 -- what is left of a queue keeps its order, its side and its turns
 
-all_early : (turn : ℕ) (l : List Order) → All (λ (y : Order). y.turn < turn) l → All (λ (y : Order). y.turn < suc turn) l
+all_early : (turn : ℕ) (l : List Order) → AllByRecursion (λ (y : Order). y.turn < turn) l → AllByRecursion (λ (y : Order). y.turn < suc turn) l
 all_early turn [] h = tt
 all_early turn (y ∷ l) h = (let k = h.0 in omega arith, all_early turn l h.1)
 
@@ -224,7 +224,7 @@ no_parts : (o : Order) (l : List Order) → total parts l ≤ 0 → reach o l �
 no_parts o [] h = refl
 no_parts o (r ∷ l) h = absurd (omega (arith, parts_least r))
 
-pub reach_endless : (k turn : ℕ) (o : Order) (l : List Order) → Sorted rank_of l → All (Sided (other o.side)) l → All (λ (y : Order). y.turn < turn) l →
+pub reach_endless : (k turn : ℕ) (o : Order) (l : List Order) → Sorted rank_of l → AllByRecursion (Sided (other o.side)) l → AllByRecursion (λ (y : Order). y.turn < turn) l →
     total parts l ≤ k → reach o l ≡ endless k turn o l
 reach_endless zero turn o l h d t m = no_parts o l m
 reach_endless (suc k) turn o [] h d t m = refl
@@ -242,10 +242,10 @@ reach_endless (suc k) turn o (r ∷ l) h d t m =
     worn_sorted true = h.1
     worn_sorted false = sorted_put_in rank_of (renewed turn r.shown r) l h.1
 
-    worn_sided : (b : Bool) → All (Sided (other o.side)) (cond b l (put_in rank_of (renewed turn r.shown r) l))
+    worn_sided : (b : Bool) → AllByRecursion (Sided (other o.side)) (cond b l (put_in rank_of (renewed turn r.shown r) l))
     worn_sided true = d.1
     worn_sided false = all_put_in rank_of (Sided (other o.side)) (renewed turn r.shown r) l d.0 d.1
 
-    worn_early : (b : Bool) → All (λ (y : Order). y.turn < suc turn) (cond b l (put_in rank_of (renewed turn r.shown r) l))
+    worn_early : (b : Bool) → AllByRecursion (λ (y : Order). y.turn < suc turn) (cond b l (put_in rank_of (renewed turn r.shown r) l))
     worn_early true = all_early turn l t.1
     worn_early false = all_put_in rank_of (λ (y : Order). y.turn < suc turn) (renewed turn r.shown r) l (let z : turn < suc turn = omega arith in z) (all_early turn l t.1)

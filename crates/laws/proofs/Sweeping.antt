@@ -1,6 +1,6 @@
 -- Removals: each pull leaves a calm floor, and the tally notes it.
 use Rattle.std.proofs.Common.{◌≡◌, ℕ, zero, suc, ◌+◌, ◌≤◌, false, List, [], ◌++◌, length, Some, None, Option, sym, refl, ap, ◌∙◌, append_assoc, arith, length-append}
-use Rattle.std.specs.List.{remove, AllByRecursion as All, slice_get}
+use Rattle.std.specs.List.{remove, AllByRecursion, slice_get}
 use Rattle.std.specs.Option.{option_map}
 use Rattle.std.proofs.lemmas.Bool.{cond_both}
 use Rattle.orders.specs.declared.side.Side.{Side}
@@ -54,7 +54,7 @@ fewer (Stops Sell) i r q h = omega (arith, length_taken q.waits.sell i h.0 h.2)
 unripe_pull : (n : Queue) (i : ℕ) (f : Floor) → Unripe f.clock.last f.queues → Unripe f.clock.last (taken n i f.queues)
 unripe_pull (Orders s) i f h = h
 unripe_pull (Stops s) i f h =
-    at_with (λ (t : Side) l. All (λ (x : Stop). ripe t f.clock.last x.trigger ≡ false) l) s (remove (at s f.queues.waits) i) f.queues.waits
+    at_with (λ (t : Side) l. AllByRecursion (λ (x : Stop). ripe t f.clock.last x.trigger ≡ false) l) s (remove (at s f.queues.waits) i) f.queues.waits
     (all_removed (λ (x : Stop). ripe s f.clock.last x.trigger ≡ false) (at s f.queues.waits) i (h s)) h
 
 -- room for a line for each record

@@ -1,6 +1,6 @@
 -- No trade passes a limit or a turn, by the tally as it is just before the trade line.
 use Rattle.std.specs.Prelude.{◌≡◌, ℕ, true, false, cond, ◌⊎◌, List, [], ◌∷◌}
-use Rattle.std.specs.List.{AllByRecursion as All}
+use Rattle.std.specs.List.{AllByRecursion}
 use Rattle.orders.specs.declared.price.Price.{Price}
 use Rattle.orders.specs.declared.row.OrderRow.{OrderRow}
 use Rattle.orders.specs.Ranks.{before, order_rank}
@@ -16,13 +16,13 @@ held_of n t = total (λ a. cond (numbered n a) 1 0) t.accounts
 
 -- of an order's own side, nobody stands who ranks ahead of it
 abbrev pub Foremost : Tally → OrderRow → Type 0
-Foremost t r = All (λ b. stands_on r.side b.place b.order ≡ true → before (order_rank b.order) (order_rank r) ≡ false) t.accounts
+Foremost t r = AllByRecursion (λ b. stands_on r.side b.place b.order ≡ true → before (order_rank b.order) (order_rank r) ≡ false) t.accounts
 
 -- the tally holds both orders, and each trades within its limit and in its turn
 pub record Fair (i r : ℕ) (price : Price) (t : Tally) : Type 0 where
   pub incoming_held : held_of i t ≡ 1
   pub resting_held : held_of r t ≡ 1
-  pub in_turn : All (λ a. (a.order.number ≡ i) ⊎ (a.order.number ≡ r) →
+  pub in_turn : AllByRecursion (λ a. (a.order.number ≡ i) ⊎ (a.order.number ≡ r) →
       (within a.order.side a.order.price price ≡ true) × Foremost t a.order) t.accounts
 
 abbrev pub FairLine : Line → Tally → Type 0

@@ -3,7 +3,7 @@
 
 mod cells;
 mod columns;
-mod forms;
+mod forming;
 pub mod line;
 mod values;
 pub mod words;
