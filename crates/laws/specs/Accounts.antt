@@ -1,8 +1,8 @@
 -- Every lot is accounted for: it was traded, is open, or was cancelled.
---   quantity-of      the quantity of an order, as entered or as last replaced
---   traded-lots      its lots on a trade line, arriving or resting
---   cancelled-lots   its lots on a cancel line
---   open-lots        its open lots in the book, standing or waiting
+--   quantity_of      the quantity of an order, as entered or as last replaced
+--   traded_lots      its lots on a trade line, arriving or resting
+--   cancelled_lots   its lots on a cancel line
+--   open_lots        its open lots in the book, standing or waiting
 use Rattle.std.specs.Prelude.{◌≡◌, ℕ, ◌+◌, cond, List, [], ◌∷◌, ◌==◌}
 use Rattle.orders.specs.declared.order.Order.{Order}
 use Rattle.orders.specs.declared.order.Stop.{Stop}

@@ -2,7 +2,7 @@
 --   account     an order of the tally and where it is: it stands, waits or is incoming
 --   turn        the next turn of the tally's own rising count
 --   note        what a line of the tape does to the tally
---   at-ease     the tally when the incoming order, if any, has come to stand
+--   at_ease     the tally when the incoming order, if any, has come to stand
 -- An order that does not stand shows no lots.
 use Rattle.std.specs.Prelude.{ℕ, ◌+◌, ◌-◌, min, Bool, true, false, cond, not, ◌&&◌, ◌||◌, List, [], ◌∷◌, Some, None, Option, ◌==◌, nat_lt}
 use Rattle.std.specs.Option.{unwrap_or}

@@ -1,6 +1,5 @@
 -- What is printed, byte by byte.
-use Rattle.std.specs.Prelude.{ℕ, ◌/◌, ◌%◌, List, ◌++◌, Some, None, codes, decimal, Option}
-use Rattle.std.proofs.Math.Utf8.{encode}
+use Rattle.std.specs.Prelude.{ℕ, ◌/◌, ◌%◌, List, ◌++◌, Some, None, codes, decimal, encode_utf8, Option}
 use Rattle.orders.specs.declared.price.Price.{Price}
 use Rattle.orders.specs.declared.order.Order.{Order}
 use Rattle.orders.specs.declared.side.Side.{Side}
@@ -42,7 +41,7 @@ fields (Cancelled n limit lots cause) = with_cause (of_one 67 n (price_of limit)
 -- kind, number, other, price, lots, cause
 abbrev pub fields_text : Fields → List ℕ
 fields_text x =
-    encode x.kind ++ (codes " " ++ (decimal x.number ++ (codes " " ++ (decimal x.other ++ (codes " "
+    encode_utf8 x.kind ++ (codes " " ++ (decimal x.number ++ (codes " " ++ (decimal x.other ++ (codes " "
     ++ (price_text x.price.hundredths ++ (codes " " ++ (decimal x.lots ++ (codes " " ++ decimal x.cause)))))))))
 
 -- number, cell, place

@@ -1,6 +1,6 @@
 -- Where rows and cells lie.
 -- word: a two-byte number; part: bytes by offset and length; part_at: those that a pair of a directory names;
--- first-misplaced: the first pair that breaks the rule of pairs.
+-- first_misplaced: the first pair that breaks the rule of pairs.
 use Rattle.std.specs.Prelude.{ℕ, zero, suc, ◌+◌, ◌*◌, cond, ◌||◌, List, length, take, drop, Some, None, Option, nat_lt, slice_index}
 use Rattle.sheets.specs.declared.directory.Directory.{Directory}
 use Rattle.sheets.specs.declared.directory.Directory.TheVariants.{Rows, Cells}
