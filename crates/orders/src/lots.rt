@@ -24,8 +24,8 @@ pub fn within(side: Side, limit: Price, price: Price) -> bool
     ensures { result ≡ within side limit price }
 {
     match side {
-        Side::Buy => price.level() <= limit.level(),
-        Side::Sell => limit.level() <= price.level(),
+        Side::Buy => price <= limit,
+        Side::Sell => limit <= price,
     }
 }
 
@@ -34,22 +34,12 @@ impl Order {
     fn with_lots(self, turn: u32, leaves: u32, shown: u32) -> Order
         ensures { result ≡ order_of (with_lots turn leaves shown self) }
     {
-        let row = OrderRow {
-            number: self.number,
+        Order::from(OrderRow {
             turn,
-            firm: self.firm,
-            client: self.client,
-            side: self.side,
-            price: self.price,
-            quantity: self.quantity,
             leaves,
             shown,
-            disclosed: self.disclosed,
-            validity: self.validity,
-            investor: self.investor,
-            tag: self.tag,
-        };
-        row.read()
+            ..OrderRow::from(self)
+        })
     }
 
     // Lots taken off those shown.

@@ -1,9 +1,9 @@
 // A price, compared by its level and by nothing else.
 ghost use Rattle.std.specs.Prelude.{◌≡◌};
-ghost use Rattle.orders.specs.Prices.{level, same_price, listed};
+ghost use Rattle.orders.specs.Prices.{level, listed};
 
 // Hundredths of the currency; an absent price is an `Option`, never a number.
-#[derive(Clone, Copy)]
+#[derive(Clone, Copy, Debug, PartialEq, Eq, PartialOrd, Ord)]
 pub struct Price {
     pub hundredths: u32,
 }
@@ -20,16 +20,10 @@ impl Price {
         self.hundredths
     }
 
-    pub fn same(self, other: Price) -> bool
-        ensures { result ≡ same_price self other }
-    {
-        self.level() == other.level()
-    }
-
     // Whether an order may carry the price.
     pub fn is_listed(self) -> bool
         ensures { result ≡ listed self }
     {
-        LOWEST <= self.hundredths && self.hundredths <= HIGHEST
+        (LOWEST..=HIGHEST).contains(&self.hundredths)
     }
 }

@@ -1,10 +1,11 @@
 // What has a number, and what has a rank besides.
 ghost use Rattle.std.specs.Prelude.{◌≡◌, ℕ, true, false};
 ghost use Rattle.orders.specs.declared.rank.Rank.{Rank as Place};
-ghost use Rattle.orders.specs.Ranks.{before, order_rank, stop_rank};
+ghost use Rattle.orders.specs.Ranks.{before, order_key, order_rank, stop_rank};
 ghost use Rattle.orders.specs.RanksLemmas.{before_chain};
 ghost use Rattle.std.proofs.Common.{rules};
 
+use crate::price::Price;
 use crate::rank::Rank;
 use crate::row::{OrderRow, StopRow};
 use crate::side::Side;
@@ -30,6 +31,16 @@ pub trait Ranked: Numbered {
     ghost settled: { (a b : Self) → before (place a) (place b) ≡ false → before (place b) (place a) ≡ false → place a ≡ place b };
 }
 
+// The key of an order by its price; that of a stop is by its trigger, as if it went the other way.
+fn key(side: Side, price: Price) -> u32
+    ensures { result ≡ order_key side price }
+{
+    match side {
+        Side::Buy => u32::MAX - price.level(),
+        Side::Sell => price.level(),
+    }
+}
+
 impl Numbered for OrderRow {
     ghost num = { λ r. r.number };
 
@@ -49,10 +60,7 @@ impl Ranked for OrderRow {
 
     fn rank(&self) -> Rank {
         Rank {
-            key: match self.side {
-                Side::Buy => u32::MAX - self.price.level(),
-                Side::Sell => self.price.level(),
-            },
+            key: key(self.side, self.price),
             turn: self.turn,
             number: self.number,
         }
@@ -78,10 +86,7 @@ impl Ranked for StopRow {
 
     fn rank(&self) -> Rank {
         Rank {
-            key: match self.order.side {
-                Side::Buy => self.trigger.level(),
-                Side::Sell => u32::MAX - self.trigger.level(),
-            },
+            key: key(self.order.side.other(), self.trigger),
             turn: self.order.turn,
             number: self.order.number,
         }

@@ -1,7 +1,7 @@
 // The plain rows that strips and slots hold.
 ghost use Rattle.std.specs.Prelude.{◌≡◌};
-ghost use Rattle.orders.specs.Bounds.{fits};
-ghost use Rattle.orders.specs.Rows.{row_of, order_of, stop_row_of, stop_of};
+ghost use Rattle.orders.specs.Bounds.{fits, keeps, Fits};
+ghost use Rattle.orders.specs.Rows.{row_of, cut, order_of, stop_row_of, stop_of};
 
 use crate::order::{Order, Stop};
 use crate::price::Price;
@@ -25,28 +25,6 @@ pub struct OrderRow {
 }
 
 impl OrderRow {
-    // An order as a row, which reads back as the order.
-    pub fn of(o: Order) -> OrderRow
-        ensures value { result ≡ row_of o }
-        ensures back { order_of result ≡ o }
-    {
-        OrderRow {
-            number: o.number,
-            turn: o.turn,
-            firm: o.firm,
-            client: o.client,
-            side: o.side,
-            price: o.price,
-            quantity: o.quantity,
-            leaves: o.leaves,
-            shown: o.shown,
-            disclosed: o.disclosed,
-            validity: o.validity,
-            investor: o.investor,
-            tag: o.tag,
-        }
-    }
-
     // Whether the row keeps the bounds of an order.
     pub fn fits(self) -> bool
         ensures { result ≡ fits self }
@@ -65,41 +43,67 @@ impl OrderRow {
             && u64::from(self.leaves) <= u64::from(self.shown) + 15 * u64::from(self.disclosed)
     }
 
-    // The order that the row lies for; outside the bounds one lot, all of it shown, the rest as it lies.
-    pub fn read(self) -> Order
-        ensures { result ≡ order_of self }
+    // The row as it lies within the bounds; outside them one lot, all of it shown, the rest as it lies.
+    fn sound(self) -> OrderRow
+        ensures value { result ≡ cut (keeps self) self }
+        ensures fits { Fits result }
     {
         if self.fits() {
-            return Order {
-                number: self.number,
-                turn: self.turn,
-                firm: self.firm,
-                client: self.client,
-                side: self.side,
-                price: self.price,
-                quantity: self.quantity,
-                leaves: self.leaves,
-                shown: self.shown,
-                disclosed: self.disclosed,
-                validity: self.validity,
-                investor: self.investor,
-                tag: self.tag,
-            };
+            return self;
         }
-        Order {
-            number: self.number,
-            turn: self.turn,
-            firm: self.firm,
-            client: self.client,
-            side: self.side,
-            price: self.price,
+        OrderRow {
             quantity: 1,
             leaves: 1,
             shown: 1,
             disclosed: 0,
-            validity: self.validity,
-            investor: self.investor,
-            tag: self.tag,
+            ..self
+        }
+    }
+}
+
+// An order as a row, which reads back as the order.
+impl From<Order> for OrderRow {
+    ghost from_gives = { λ o r. (r ≡ row_of o) × (order_of r ≡ o) };
+
+    fn from(o: Order) -> OrderRow {
+        OrderRow {
+            number: o.number,
+            turn: o.turn,
+            firm: o.firm,
+            client: o.client,
+            side: o.side,
+            price: o.price,
+            quantity: o.quantity,
+            leaves: o.leaves,
+            shown: o.shown,
+            disclosed: o.disclosed,
+            validity: o.validity,
+            investor: o.investor,
+            tag: o.tag,
+        }
+    }
+}
+
+// The order that a row lies for.
+impl From<OrderRow> for Order {
+    ghost from_gives = { λ r o. o ≡ order_of r };
+
+    fn from(row: OrderRow) -> Order {
+        let row = row.sound();
+        Order {
+            number: row.number,
+            turn: row.turn,
+            firm: row.firm,
+            client: row.client,
+            side: row.side,
+            price: row.price,
+            quantity: row.quantity,
+            leaves: row.leaves,
+            shown: row.shown,
+            disclosed: row.disclosed,
+            validity: row.validity,
+            investor: row.investor,
+            tag: row.tag,
         }
     }
 }
@@ -110,25 +114,26 @@ pub struct StopRow {
     pub trigger: Price,
 }
 
-impl StopRow {
-    // A stop as a row, which reads back as the stop.
-    pub fn of(s: Stop) -> StopRow
-        ensures value { result ≡ stop_row_of s }
-        ensures back { stop_of result ≡ s }
-    {
+// A stop as a row, which reads back as the stop.
+impl From<Stop> for StopRow {
+    ghost from_gives = { λ s r. (r ≡ stop_row_of s) × (stop_of r ≡ s) };
+
+    fn from(s: Stop) -> StopRow {
         StopRow {
-            order: OrderRow::of(s.order),
+            order: OrderRow::from(s.order),
             trigger: s.trigger,
         }
     }
+}
 
-    // The stop that the row lies for.
-    pub fn read(self) -> Stop
-        ensures { result ≡ stop_of self }
-    {
+// The stop that a row lies for.
+impl From<StopRow> for Stop {
+    ghost from_gives = { λ r s. s ≡ stop_of r };
+
+    fn from(row: StopRow) -> Stop {
         Stop {
-            order: self.order.read(),
-            trigger: self.trigger,
+            order: Order::from(row.order),
+            trigger: row.trigger,
         }
     }
 }

@@ -1,14 +1,14 @@
 // Which way an order goes, and how long it holds.
 ghost use Rattle.std.specs.Prelude.{◌≡◌};
-ghost use Rattle.orders.specs.Sides.{other, same_side, fleeting, daily};
+ghost use Rattle.orders.specs.Sides.{other, fleeting, daily};
 
-#[derive(Clone, Copy)]
+#[derive(Clone, Copy, Debug, PartialEq, Eq)]
 pub enum Side {
     Buy,
     Sell,
 }
 
-#[derive(Clone, Copy)]
+#[derive(Clone, Copy, Debug, PartialEq, Eq)]
 pub enum Validity {
     Day,
     Gtc,
@@ -23,16 +23,6 @@ impl Side {
         match self {
             Side::Buy => Side::Sell,
             Side::Sell => Side::Buy,
-        }
-    }
-
-    pub fn same(self, side: Side) -> bool
-        ensures { result ≡ same_side self side }
-    {
-        match (self, side) {
-            (Side::Buy, Side::Buy) => true,
-            (Side::Sell, Side::Sell) => true,
-            _ => false,
         }
     }
 }
