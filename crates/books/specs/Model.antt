@@ -1,5 +1,5 @@
 -- What a book means: four queues of fixed capacity, and what each call answers and leaves.
-use Rattle.std.specs.Prelude.{ℕ, ◌≤◌, Bool, cond, List, [], length, is_some, Some, None, Option, nat_lt, slice_set}
+use Rattle.std.specs.Prelude.{ℕ, ◌≤◌, Bool, cond, List, [], length, is_some, Some, None, Option, Result, Ok, Err, ⊤, nat_lt, slice_set}
 use Rattle.std.specs.List.{remove, slice_get}
 use Rattle.std.specs.Option.{option_map, option_or}
 use Rattle.orders.specs.declared.side.Side.{Side}
@@ -14,8 +14,8 @@ use Rattle.books.specs.declared.queue.Queue.{Queue}
 use Rattle.books.specs.declared.queue.Queue.TheVariants.{Orders, Stops}
 use Rattle.books.specs.declared.queue.Record.{Record}
 use Rattle.books.specs.declared.queue.Record.TheVariants.{Standing, Waiting}
-use Rattle.books.specs.declared.queue.Put.{Put}
-use Rattle.books.specs.declared.queue.Put.TheVariants.{Done, Full, Twice}
+use Rattle.books.specs.declared.queue.PutError.{PutError}
+use Rattle.books.specs.declared.queue.PutError.TheVariants.{Full, Twice}
 
 -- one of each side
 pub record Both (A : Type 0) : Type 0 where
@@ -58,6 +58,10 @@ rank_of o = order_rank (row_of o)
 abbrev pub stop_rank_of : Stop → Rank
 stop_rank_of x = stop_rank (stop_row_of x)
 
+abbrev pub record_rank : Record → Rank
+record_rank (Standing o) = rank_of o
+record_rank (Waiting x) = stop_rank_of x
+
 -- count and capacity
 abbrev pub count : Queue → Queues → ℕ
 count (Orders s) q = length (at s q.stands)
@@ -85,9 +89,13 @@ found n q =
     (option_or (option_map (λ p. (Stops Buy, p)) (first_number (λ (x : Stop). x.order.number) n q.waits.buy))
     (option_map (λ p. (Stops Sell, p)) (first_number (λ (x : Stop). x.order.number) n q.waits.sell))))
 
+-- what a put answers: done, or why not
+abbrev pub Put : Type 0
+Put = Result ⊤ PutError
+
 -- full, else twice, else done
 abbrev pub put_answer : Record → Queues → Put
-put_answer e q = cond (nat_lt (count (queue_of e) q) (room (queue_of e) q)) (cond (is_some (found (number_of e) q)) Twice Done) Full
+put_answer e q = cond (nat_lt (count (queue_of e) q) (room (queue_of e) q)) (cond (is_some (found (number_of e) q)) (Err Twice) (Ok tt)) (Err Full)
 
 abbrev pub placed : Record → Queues → Queues
 placed (Standing o) q = with_stands o.side (put_in rank_of o (at o.side q.stands)) q
@@ -95,9 +103,9 @@ placed (Waiting x) q = with_waits x.order.side (put_in stop_rank_of x (at x.orde
 
 -- what a put leaves, by its answer
 abbrev pub after_put : Put → Record → Queues → Queues
-after_put Done e q = placed e q
-after_put Full e q = q
-after_put Twice e q = q
+after_put (Ok _) e q = placed e q
+after_put (Err Full) e q = q
+after_put (Err Twice) e q = q
 
 -- what leaves a place
 abbrev pub taken : Queue → ℕ → Queues → Queues

@@ -2,7 +2,7 @@
 ghost use Rattle.std.specs.Prelude.{◌≡◌, ℕ};
 ghost use Rattle.books.specs.Model.{Queues, Bounded, count, room, look_at, found, put_answer, after_put, rewrite_fits, rewritten, taken, cleared};
 
-use crate::queue::{Put, Queue, Record};
+use crate::queue::{PutError, Queue, Record};
 
 pub trait Book {
     ghost queues: { Self → Queues };
@@ -20,7 +20,7 @@ pub trait Book {
         ensures { result ≡ found number (queues self.now) };
 
     // The record goes into its queue, before the first that ranks behind it, or last.
-    fn put(&mut self, record: Record) -> Put
+    fn put(&mut self, record: Record) -> Result<(), PutError>
         ensures told { result ≡ put_answer «record» (queues self.old) }
         ensures left { queues self.new ≡ after_put result «record» (queues self.old) };
 

@@ -3,7 +3,7 @@ ghost use Rattle.std.specs.Prelude.{◌≡◌, ℕ, ◌<◌, ◌≤◌, true, fa
 ghost use Rattle.std.specs.List.{slice_get, remove};
 ghost use Rattle.orders.specs.declared.rank.Rank.{Rank as Place};
 ghost use Rattle.orders.specs.Rows.{order_of, row_of, stop_of, stop_row_of};
-ghost use Rattle.books.specs.Lists.{put_in, swap_fits, first_number};
+ghost use Rattle.books.specs.Lists.{put_in, ranks_as, swap_fits, first_number};
 ghost use Rattle.books.specs.Model.{rank_of, stop_rank_of};
 ghost use Rattle.orders.proofs.Orders.{order_row, stop_row};
 
@@ -55,11 +55,11 @@ impl Kept for OrderRow {
     ghost numbers = { λ x. refl };
 
     fn item(self) -> Order {
-        self.read()
+        Order::from(self)
     }
 
     fn lay(i: Order) -> OrderRow {
-        OrderRow::of(i)
+        OrderRow::from(i)
     }
 }
 
@@ -81,11 +81,11 @@ impl Kept for StopRow {
     ghost numbers = { λ x. refl };
 
     fn item(self) -> Stop {
-        self.read()
+        Stop::from(self)
     }
 
     fn lay(i: Stop) -> StopRow {
-        StopRow::of(i)
+        StopRow::from(i)
     }
 }
 
@@ -98,10 +98,7 @@ pub fn size_of<T: Kept, L: Lane<Row = T>>(lane: &L) -> (usize, usize)
 pub fn item_at<T: Kept, L: Lane<Row = T>>(lane: &L, at: usize) -> Option<T::Item>
     ensures { result ≡ slice_get (map T.Kept.item (L.Lane.run lane.now).rows) at }
 {
-    match lane.look(at) {
-        Some(r) => Some(r.item()),
-        None => None,
-    }
+    lane.look(at).map(|row| row.item())
 }
 
 pub fn find_item<T: Kept, L: Lane<Row = T>>(lane: &L, n: u32) -> Option<usize>
@@ -123,10 +120,14 @@ pub fn take_item<T: Kept, L: Lane<Row = T>>(lane: &mut L, at: usize) -> Option<T
     ensures left { map T.Kept.item (L.Lane.run lane.new).rows ≡ remove (map T.Kept.item (L.Lane.run lane.old).rows) at }
     ensures same { (L.Lane.run lane.new).space ≡ (L.Lane.run lane.old).space }
 {
-    match lane.take(at) {
-        Some(r) => Some(r.item()),
-        None => None,
-    }
+    lane.take(at).map(|row| row.item())
+}
+
+// Whether x has the rank of what was looked at.
+pub fn ranks_as<T: Ranked + Copy>(seen: Option<T>, x: T) -> bool
+    ensures { result ≡ ranks_as T.Ranked.place x seen }
+{
+    seen.is_some_and(|y| y.rank() == x.rank())
 }
 
 pub fn swap_item<T: Kept + Copy, L: Lane<Row = T>>(lane: &mut L, at: usize, i: T::Item) -> bool
@@ -135,14 +136,9 @@ pub fn swap_item<T: Kept + Copy, L: Lane<Row = T>>(lane: &mut L, at: usize, i: T
     ensures same { (L.Lane.run lane.new).space ≡ (L.Lane.run lane.old).space }
 {
     let x = T::lay(i);
-    match lane.look(at) {
-        Some(y) => {
-            if !y.rank().same(x.rank()) {
-                return false;
-            }
-            lane.replace(at, x);
-            true
-        }
-        None => false,
+    let fits = ranks_as(lane.look(at), x);
+    if fits {
+        lane.replace(at, x);
     }
+    fits
 }

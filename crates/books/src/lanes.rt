@@ -6,8 +6,7 @@ ghost use Rattle.books.specs.Within.{lanes_bounded};
 use crate::book::Book;
 use crate::kept::{find_item, item_at, put_item, size_of, swap_item, take_item};
 use crate::lane::Lane;
-use crate::pick::{standing, waiting};
-use crate::queue::{Put, Queue, Record};
+use crate::queue::{PutError, Queue, Record};
 use orders::ranked::Numbered;
 use orders::row::{OrderRow, StopRow};
 use orders::side::Side;
@@ -37,10 +36,10 @@ impl<O: Lane<Row = OrderRow>, S: Lane<Row = StopRow>> Book for Lanes<O, S> {
 
     fn look(&self, queue: Queue, at: usize) -> Option<Record> {
         match queue {
-            Queue::Orders(Side::Buy) => standing(item_at(&self.bids, at)),
-            Queue::Orders(Side::Sell) => standing(item_at(&self.offers, at)),
-            Queue::Stops(Side::Buy) => waiting(item_at(&self.buys, at)),
-            Queue::Stops(Side::Sell) => waiting(item_at(&self.sells, at)),
+            Queue::Orders(Side::Buy) => item_at(&self.bids, at).map(Record::Standing),
+            Queue::Orders(Side::Sell) => item_at(&self.offers, at).map(Record::Standing),
+            Queue::Stops(Side::Buy) => item_at(&self.buys, at).map(Record::Waiting),
+            Queue::Stops(Side::Sell) => item_at(&self.sells, at).map(Record::Waiting),
         }
     }
 
@@ -60,13 +59,13 @@ impl<O: Lane<Row = OrderRow>, S: Lane<Row = StopRow>> Book for Lanes<O, S> {
         None
     }
 
-    fn put(&mut self, record: Record) -> Put {
+    fn put(&mut self, record: Record) -> Result<(), PutError> {
         let (count, room) = self.size(record.queue());
         if count >= room {
-            return Put::Full;
+            return Err(PutError::Full);
         }
         if self.find(record.number()).is_some() {
-            return Put::Twice;
+            return Err(PutError::Twice);
         }
         match record {
             Record::Standing(o) => match o.side {
@@ -78,7 +77,7 @@ impl<O: Lane<Row = OrderRow>, S: Lane<Row = StopRow>> Book for Lanes<O, S> {
                 Side::Sell => put_item(&mut self.sells, x),
             },
         };
-        Put::Done
+        Ok(())
     }
 
     fn rewrite(&mut self, at: usize, record: Record) -> bool {
@@ -96,10 +95,10 @@ impl<O: Lane<Row = OrderRow>, S: Lane<Row = StopRow>> Book for Lanes<O, S> {
 
     fn take(&mut self, queue: Queue, at: usize) -> Option<Record> {
         match queue {
-            Queue::Orders(Side::Buy) => standing(take_item(&mut self.bids, at)),
-            Queue::Orders(Side::Sell) => standing(take_item(&mut self.offers, at)),
-            Queue::Stops(Side::Buy) => waiting(take_item(&mut self.buys, at)),
-            Queue::Stops(Side::Sell) => waiting(take_item(&mut self.sells, at)),
+            Queue::Orders(Side::Buy) => take_item(&mut self.bids, at).map(Record::Standing),
+            Queue::Orders(Side::Sell) => take_item(&mut self.offers, at).map(Record::Standing),
+            Queue::Stops(Side::Buy) => take_item(&mut self.buys, at).map(Record::Waiting),
+            Queue::Stops(Side::Sell) => take_item(&mut self.sells, at).map(Record::Waiting),
         }
     }
 

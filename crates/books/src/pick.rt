@@ -1,8 +1,6 @@
-// The order, or the stop, in what a look tells; and back.
+// The order, or the stop, in what a look tells.
 ghost use Rattle.std.specs.Prelude.{◌≡◌};
 ghost use Rattle.books.specs.Model.{order_in, stop_in, order_of_record};
-ghost use Rattle.books.specs.declared.queue.Record.TheVariants.{Standing, Waiting};
-ghost use Rattle.std.specs.Option.{option_map};
 
 use crate::queue::Record;
 use orders::order::{Order, Stop};
@@ -19,44 +17,22 @@ impl Record {
     }
 }
 
+// The order in what a look tells.
 pub fn order_in(seen: Option<Record>) -> Option<Order>
     ensures { result ≡ order_in seen }
 {
-    match seen {
-        Some(x) => match x {
-            Record::Standing(o) => Some(o),
-            Record::Waiting(_) => None,
-        },
-        None => None,
+    match seen? {
+        Record::Standing(o) => Some(o),
+        Record::Waiting(_) => None,
     }
 }
 
+// The stop in what a look tells.
 pub fn stop_in(seen: Option<Record>) -> Option<Stop>
     ensures { result ≡ stop_in seen }
 {
-    match seen {
-        Some(x) => match x {
-            Record::Standing(_) => None,
-            Record::Waiting(s) => Some(s),
-        },
-        None => None,
-    }
-}
-
-pub fn standing(o: Option<Order>) -> Option<Record>
-    ensures { result ≡ option_map Standing o }
-{
-    match o {
-        Some(x) => Some(Record::Standing(x)),
-        None => None,
-    }
-}
-
-pub fn waiting(o: Option<Stop>) -> Option<Record>
-    ensures { result ≡ option_map Waiting o }
-{
-    match o {
-        Some(x) => Some(Record::Waiting(x)),
-        None => None,
+    match seen? {
+        Record::Standing(_) => None,
+        Record::Waiting(x) => Some(x),
     }
 }

@@ -1,12 +1,16 @@
 // The names of a book's queues, and what stands in them.
 ghost use Rattle.std.specs.Prelude.{◌≡◌};
-ghost use Rattle.books.specs.Model.{queue_of, number_of};
+ghost use Rattle.books.specs.Model.{queue_of, number_of, record_rank};
+ghost use Rattle.orders.specs.RanksLemmas.{before_apart, before_chain, before_settled};
 
 use orders::order::{Order, Stop};
+use orders::rank::Rank;
+use orders::ranked::{Numbered, Ranked};
+use orders::row::{OrderRow, StopRow};
 use orders::side::Side;
 
 // A kind and a side name a queue: bids and offers, buy stops and sell stops.
-#[derive(Clone, Copy)]
+#[derive(Clone, Copy, Debug, PartialEq, Eq)]
 pub enum Queue {
     Orders(Side),
     Stops(Side),
@@ -19,10 +23,9 @@ pub enum Record {
     Waiting(Stop),
 }
 
-// What a put answers.
-#[derive(Clone, Copy)]
-pub enum Put {
-    Done,
+// Why a record is not put.
+#[derive(Clone, Copy, Debug, PartialEq, Eq)]
+pub enum PutError {
     Full,
     Twice,
 }
@@ -36,13 +39,33 @@ impl Record {
             Record::Waiting(x) => Queue::Stops(x.order.side),
         }
     }
+}
 
-    pub fn number(self) -> u32
-        ensures { result ≡ number_of self }
-    {
-        match self {
+impl Numbered for Record {
+    ghost num = { number_of };
+
+    fn number(&self) -> u32 {
+        match *self {
             Record::Standing(o) => o.number,
             Record::Waiting(x) => x.order.number,
+        }
+    }
+}
+
+// A record ranks as its row does.
+impl Ranked for Record {
+    ghost place = { record_rank };
+
+    ghost apart = { λ a. before_apart (record_rank a) };
+
+    ghost chain = { λ a b c. before_chain (record_rank a) (record_rank b) (record_rank c) };
+
+    ghost settled = { λ a b. before_settled (record_rank a) (record_rank b) };
+
+    fn rank(&self) -> Rank {
+        match *self {
+            Record::Standing(o) => OrderRow::from(o).rank(),
+            Record::Waiting(x) => StopRow::from(x).rank(),
         }
     }
 }

@@ -1,5 +1,5 @@
 -- What the calls of a front card tell and leave.
-use Rattle.std.specs.Prelude.{◌≡◌, ℕ, zero, suc, Bool, true, false, cond, List, length, Some, None, Option, ◌≢◌, slice_set, refl}
+use Rattle.std.specs.Prelude.{◌≡◌, ℕ, zero, suc, Bool, true, false, cond, List, length, Some, None, Option, Ok, Err, ◌≢◌, slice_set, refl}
 use Rattle.std.proofs.Common.{ap, sym, subst, ◌∙◌}
 use Rattle.std.specs.List.{remove, slice_get}
 use Rattle.std.specs.Option.{option_map}
@@ -9,14 +9,13 @@ use Rattle.orders.specs.declared.side.Side.TheVariants.{Buy, Sell}
 use Rattle.orders.specs.declared.order.Order.{Order}
 use Rattle.orders.specs.declared.order.Stop.{Stop}
 use Rattle.books.specs.Lists.{ranks_as, swap_fits, put_in}
-use Rattle.books.specs.Model.{Both, at, with_at, Queues, Bounded, with_stands, with_waits, count, room, look_at, found, put_answer, after_put, taken, queue_of, number_of, rank_of, stop_rank_of, rewrite_fits, record_set, rewritten}
+use Rattle.books.specs.Model.{Both, at, with_at, Queues, Bounded, with_stands, with_waits, count, room, look_at, found, put_answer, after_put, taken, queue_of, number_of, rank_of, stop_rank_of, rewrite_fits, record_set, rewritten, record_rank, Put}
 use Rattle.books.specs.declared.queue.Queue.{Queue}
 use Rattle.books.specs.declared.queue.Queue.TheVariants.{Orders, Stops}
 use Rattle.books.specs.declared.queue.Record.{Record}
 use Rattle.books.specs.declared.queue.Record.TheVariants.{Standing, Waiting}
-use Rattle.books.specs.declared.queue.Put.{Put}
-use Rattle.books.specs.declared.queue.Put.TheVariants.{Done, Full, Twice}
-use Rattle.cards.specs.Held.{Held, held_at, held_with, held_without, over, over_first, covered, record_rank}
+use Rattle.books.specs.declared.queue.PutError.TheVariants.{Full, Twice}
+use Rattle.cards.specs.Held.{Held, held_at, held_with, held_without, over, over_first, covered}
 use Rattle.cards.specs.Cover.{over_length, over_later, over_number, over_is, over_fits, over_held, over_set, over_removed, over_first_removed}
 
 cond_out : {X Y : Type 0} (f : X → Y) (b : Bool) (x y : X) → f (cond b x y) ≡ cond b (f x) (f y)
@@ -171,10 +170,10 @@ module _ (h : Held) (q : Queues) where
   put_stop Sell x e = rw e refl
 
   pub put_clear : (a : Put) (r : Record) → held_at (queue_of r) h ≡ None → covered h (after_put a r q) ≡ after_put a r Q
-  put_clear Done (Standing o) e = put_order o.side o (standing_none (at o.side h.orders) e)
-  put_clear Done (Waiting x) e = put_stop x.order.side x (waiting_none (at x.order.side h.stops) e)
-  put_clear Full r e = refl
-  put_clear Twice r e = refl
+  put_clear (Ok _) (Standing o) e = put_order o.side o (standing_none (at o.side h.orders) e)
+  put_clear (Ok _) (Waiting x) e = put_stop x.order.side x (waiting_none (at x.order.side h.stops) e)
+  put_clear (Err Full) r e = refl
+  put_clear (Err Twice) r e = refl
 
   -- a rewrite of a first record is held
   set_held : (r : Record) → rewrite_fits 0 r q ≡ true → covered (held_with r h) q ≡ record_set 0 r Q

@@ -53,8 +53,3 @@ covered h q = record {
   stands_room = q.stands_room;
   waits_room = q.waits_room;
 }
-
--- how a record ranks in its queue
-abbrev pub record_rank : Record → Rank
-record_rank (Standing o) = rank_of o
-record_rank (Waiting x) = stop_rank_of x

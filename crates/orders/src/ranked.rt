@@ -2,8 +2,7 @@
 ghost use Rattle.std.specs.Prelude.{◌≡◌, ℕ, true, false};
 ghost use Rattle.orders.specs.declared.rank.Rank.{Rank as Place};
 ghost use Rattle.orders.specs.Ranks.{before, order_key, order_rank, stop_rank};
-ghost use Rattle.orders.specs.RanksLemmas.{before_chain};
-ghost use Rattle.std.proofs.Common.{rules};
+ghost use Rattle.orders.specs.RanksLemmas.{before_apart, before_chain, before_settled};
 
 use crate::price::Price;
 use crate::rank::Rank;
@@ -52,11 +51,11 @@ impl Numbered for OrderRow {
 impl Ranked for OrderRow {
     ghost place = { order_rank };
 
-    ghost apart = { Prim.search rules };
+    ghost apart = { λ a. before_apart (order_rank a) };
 
     ghost chain = { λ a b c. before_chain (order_rank a) (order_rank b) (order_rank c) };
 
-    ghost settled = { Prim.search rules };
+    ghost settled = { λ a b. before_settled (order_rank a) (order_rank b) };
 
     fn rank(&self) -> Rank {
         Rank {
@@ -78,11 +77,11 @@ impl Numbered for StopRow {
 impl Ranked for StopRow {
     ghost place = { stop_rank };
 
-    ghost apart = { Prim.search rules };
+    ghost apart = { λ a. before_apart (stop_rank a) };
 
     ghost chain = { λ a b c. before_chain (stop_rank a) (stop_rank b) (stop_rank c) };
 
-    ghost settled = { Prim.search rules };
+    ghost settled = { λ a b. before_settled (stop_rank a) (stop_rank b) };
 
     fn rank(&self) -> Rank {
         Rank {

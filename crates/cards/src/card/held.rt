@@ -1,67 +1,39 @@
 // What a front card holds, queue by queue.
 ghost use Rattle.std.specs.Prelude.{◌≡◌, Some};
-ghost use Rattle.std.specs.Option.{option_map};
 ghost use Rattle.orders.specs.Rows.{order_of, stop_of};
 ghost use Rattle.books.specs.declared.queue.Record.{Record as Kind};
 ghost use Rattle.books.specs.declared.queue.Record.TheVariants.{Standing, Waiting};
-ghost use Rattle.books.specs.Lists.{ranks_as};
-ghost use Rattle.books.specs.Model.{queue_of};
+ghost use Rattle.books.specs.Model.{queue_of, record_rank};
 ghost use Rattle.cards.specs.Cards.{held_by};
-ghost use Rattle.cards.specs.Held.{held_at, held_with, held_without, none_held, over_first, record_rank};
+ghost use Rattle.cards.specs.Held.{held_at, held_with, held_without, none_held, over_first};
 
 use super::FrontCard;
+use books::kept::ranks_as;
 use books::queue::{Queue, Record};
-use orders::rank::Rank;
-use orders::ranked::Ranked;
+use orders::order::{Order, Stop};
 use orders::row::{OrderRow, StopRow};
 use orders::side::Side;
-
-// How a record ranks in its queue.
-pub(super) fn rank_of(record: Record) -> Rank
-    ensures { result ≡ record_rank «record» }
-{
-    match record {
-        Record::Standing(o) => OrderRow::of(o).rank(),
-        Record::Waiting(x) => StopRow::of(x).rank(),
-    }
-}
-
-// Whether a record has the rank of a queue's first one.
-pub(super) fn ranks_as(first: Option<Record>, record: Record) -> bool
-    ensures { result ≡ ranks_as record_rank «record» first }
-{
-    match first {
-        Some(x) => rank_of(x).same(rank_of(record)),
-        None => false,
-    }
-}
 
 // A held record in the place of a first one of its rank.
 pub(super) fn over(held: Option<Record>, first: Option<Record>) -> Option<Record>
     ensures { result ≡ over_first record_rank held first }
 {
     match held {
-        Some(h) => { if ranks_as(first, h) { held } else { first } }
-        None => first,
+        Some(h) if ranks_as(first, h) => held,
+        _ => first,
     }
 }
 
-fn order_lying(row: Option<OrderRow>) -> Option<Record>
-    ensures { result ≡ option_map Standing (option_map order_of row) }
+fn standing(row: OrderRow) -> Record
+    ensures { result ≡ Standing (order_of row) }
 {
-    match row {
-        Some(x) => Some(Record::Standing(x.read())),
-        None => None,
-    }
+    Record::Standing(Order::from(row))
 }
 
-fn stop_lying(row: Option<StopRow>) -> Option<Record>
-    ensures { result ≡ option_map Waiting (option_map stop_of row) }
+fn waiting(row: StopRow) -> Record
+    ensures { result ≡ Waiting (stop_of row) }
 {
-    match row {
-        Some(x) => Some(Record::Waiting(x.read())),
-        None => None,
-    }
+    Record::Waiting(Stop::from(row))
 }
 
 impl<B> FrontCard<B> {
@@ -71,10 +43,10 @@ impl<B> FrontCard<B> {
         ensures there { (x : Kind) → result ≡ Some x → queue_of x ≡ queue }
     {
         match queue {
-            Queue::Orders(Side::Buy) => order_lying(self.bid),
-            Queue::Orders(Side::Sell) => order_lying(self.offer),
-            Queue::Stops(Side::Buy) => stop_lying(self.buy),
-            Queue::Stops(Side::Sell) => stop_lying(self.sell),
+            Queue::Orders(Side::Buy) => self.bid.map(standing),
+            Queue::Orders(Side::Sell) => self.offer.map(standing),
+            Queue::Stops(Side::Buy) => self.buy.map(waiting),
+            Queue::Stops(Side::Sell) => self.sell.map(waiting),
         }
     }
 
@@ -85,12 +57,12 @@ impl<B> FrontCard<B> {
     {
         match record {
             Record::Standing(o) => match o.side {
-                Side::Buy => self.bid = Some(OrderRow::of(o)),
-                Side::Sell => self.offer = Some(OrderRow::of(o)),
+                Side::Buy => self.bid = Some(OrderRow::from(o)),
+                Side::Sell => self.offer = Some(OrderRow::from(o)),
             },
             Record::Waiting(x) => match x.order.side {
-                Side::Buy => self.buy = Some(StopRow::of(x)),
-                Side::Sell => self.sell = Some(StopRow::of(x)),
+                Side::Buy => self.buy = Some(StopRow::from(x)),
+                Side::Sell => self.sell = Some(StopRow::from(x)),
             },
         }
     }
@@ -107,6 +79,7 @@ impl<B> FrontCard<B> {
             Queue::Stops(Side::Sell) => self.sell = None,
         }
     }
+
     // Nothing is held any more.
     pub(super) fn let_all_go(&mut self)
         ensures left { held_by self.new ≡ none_held }

@@ -6,9 +6,10 @@ ghost use Rattle.cards.specs.Held.{held_at};
 ghost use Rattle.cards.specs.Covered.{covered_bounded};
 
 use super::FrontCard;
-use super::held::{over, ranks_as};
+use super::held::over;
 use books::book::Book;
-use books::queue::{Put, Queue, Record};
+use books::kept::ranks_as;
+use books::queue::{PutError, Queue, Record};
 
 impl<B: Book> FrontCard<B> {
     // A card that holds nothing.
@@ -76,7 +77,7 @@ impl<B: Book> Book for FrontCard<B> {
         self.below.find(number)
     }
 
-    fn put(&mut self, record: Record) -> Put {
+    fn put(&mut self, record: Record) -> Result<(), PutError> {
         self.flush(record.queue());
         self.below.put(record)
     }
