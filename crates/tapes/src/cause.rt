@@ -2,22 +2,23 @@
 ghost use Rattle.std.specs.Prelude.{◌≡◌};
 ghost use Rattle.tapes.specs.Causes.{number};
 
-#[derive(Clone, Copy)]
+// Each with its published number.
+#[derive(Clone, Copy, Debug, PartialEq, Eq)]
 pub enum Cause {
     // A cancel or mass cancel asked for it.
-    Asked,
+    Asked = 1,
     // What an IOC order did not trade at once.
-    Leftover,
+    Leftover = 2,
     // Reach fell short of the quantity of a FOK order, or of a minimum.
-    ShortReach,
+    ShortReach = 3,
     // It met an order of its own investor.
-    OwnInvestor,
+    OwnInvestor = 4,
     // Its queue refused it.
-    NoPlace,
+    NoPlace = 5,
     // A market order found no opposite order.
-    NoOpposite,
+    NoOpposite = 6,
     // The day was closed.
-    DayClosed,
+    DayClosed = 7,
 }
 
 impl Cause {
@@ -25,14 +26,6 @@ impl Cause {
     pub fn number(self) -> u8
         ensures { result ≡ number self }
     {
-        match self {
-            Cause::Asked => 1,
-            Cause::Leftover => 2,
-            Cause::ShortReach => 3,
-            Cause::OwnInvestor => 4,
-            Cause::NoPlace => 5,
-            Cause::NoOpposite => 6,
-            Cause::DayClosed => 7,
-        }
+        self as u8
     }
 }
