@@ -1,8 +1,7 @@
 -- The first so many of so many places.
-use Rattle.std.proofs.Common.{◌≡◌, ℕ, ◌+◌, ◌-◌, ◌<◌, ◌≤◌, min, true, ltb, List, length, take, set, sym, refl, ap, ◌∙◌, ⊎_elim, arith}
+use Rattle.std.proofs.Common.{◌≡◌, ℕ, ◌+◌, ◌-◌, ◌<◌, ◌≤◌, min, List, length, take, set, sym, refl, ap, ◌∙◌, arith}
 use Rattle.std.specs.List.{remove}
-use Rattle.std.proofs.lemmas.List.{take-take, take_all, length-take, set_past}
-use Rattle.std.proofs.lemmas.Bool.{cases_lt, lt-ltb}
+use Rattle.std.proofs.lemmas.List.{take-take, take_min, length-take}
 use Rattle.orders.specs.declared.rank.Rank.{Rank}
 use Rattle.books.specs.Lists.{put_in}
 use Rattle.books.proofs.Lists.{set_take, removed_past}
@@ -15,23 +14,13 @@ pub front_set : {X : Type 0} (c m : ℕ) (xs : List X) (i : ℕ) (y : X) → fro
 front_set c m xs i y = ap (take c) (set_take m xs i y) ∙ set_take c (take m xs) i y
 
 -- all that is used stands in front
-take_cap : {X : Type 0} (k n : ℕ) (xs : List X) → n ≡ min k (length xs) → take k xs ≡ take n xs
-take_cap k n xs e = ⊎_elim
-    (λ (h : k < length xs). ap (λ z. take z xs) (let t : k ≡ n = omega arith in t))
-    (λ (h : length xs ≤ k). take_all k xs h ∙ sym (take_all n xs (omega arith)))
-    (cases_lt k (length xs))
-
 pub front_used : {X : Type 0} (c m : ℕ) (xs : List X) (n : ℕ) → n ≡ min c (min m (length xs)) → front c m xs ≡ take n xs
-front_used c m xs n e = ⊎_elim
-    (λ (h : c < m). take-take c m xs (omega arith) ∙ take_cap c n xs (omega arith))
-    (λ (h : m ≤ c). take_all c (take m xs) (simp length-take (omega arith)) ∙ take_cap m n xs (omega arith))
-    (cases_lt c m)
+front_used c m xs n e =
+    let l : min c (length (take m xs)) ≡ n = simp length-take (sym e) in
+    sym (take_min c (take m xs)) ∙ ap (λ k. take k (take m xs)) l ∙ take-take n m xs (omega arith)
 
 -- what calls tell and leave, where n records stand in front
 module _ {X : Type 0} (c m : ℕ) (xs : List X) (n : ℕ) where
-  pub put_told : (k : ℕ) → n ≡ length (front c m xs) → k ≡ min m (length xs) → n < k → true ≡ ltb (length (front c m xs)) (min m (length xs))
-  put_told k used e h = sym (lt-ltb _ _ (omega arith))
-
   pub put_left : (f : X → Rank) (k : ℕ) (ys : List X) (x : X) → front c m xs ≡ take n xs → k ≡ min m (length xs) → n < k →
       take (n + 1) ys ≡ put_in f x (take n xs) → front (n + 1) m ys ≡ put_in f x (front c m xs)
   put_left f k ys x is e h t = take-take (n + 1) m ys (omega arith) ∙ t ∙ ap (put_in f x) (sym is)
@@ -44,6 +33,3 @@ module _ {X : Type 0} (c m : ℕ) (xs : List X) (n : ℕ) where
 
   pub take_past : n ≡ length (front c m xs) → (i : ℕ) → n ≤ i → front c m xs ≡ remove (front c m xs) i
   take_past used i h = removed_past (front c m xs) i (omega arith)
-
-  pub set_none : n ≡ length (front c m xs) → (i : ℕ) (x : X) → n ≤ i → front c m xs ≡ set (front c m xs) i x
-  set_none used i x h = sym (set_past (front c m xs) i x (omega arith))

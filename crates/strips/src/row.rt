@@ -11,6 +11,7 @@ use orders::ranked::Ranked;
 // The largest capacity of a queue.
 const MOST: usize = 1_000_000;
 
+// The count stands beside the slice, since who borrows a slice cannot make it shorter.
 #[derive(Drop)]
 pub struct RankedRow<'a, T> {
     rows: &'a mut [T],
@@ -96,11 +97,7 @@ impl<'a, T: Ranked + Copy> Lane for RankedRow<'a, T> {
 fn look_in<T: Copy>(rows: &[T], at: usize) -> Option<T>
     ensures { result ≡ slice_get rows.now at }
 {
-    if at < rows.len() {
-        Some(rows[at])
-    } else {
-        None
-    }
+    rows.get(at).copied()
 }
 
 // Another record in a place.
@@ -122,7 +119,8 @@ fn insert_in<T: Ranked + Copy>(rows: &mut [T], n: usize, x: T)
 
 // The record at a place leaves the first n.
 fn remove_in<T: Copy>(rows: &mut [T], n: usize, at: usize)
-    requires { (at < n) × (n ≤ length rows.old) }
+    requires there { at < n }
+    requires within { n ≤ length rows.old }
     ensures { take (n - 1) rows.new ≡ remove (take n rows.old) at }
 {
     close_up(&mut rows[at..n]);
@@ -150,22 +148,12 @@ fn place_of<T: Ranked>(rows: &[T], rank: Rank) -> usize
     ensures is { result ≡ place_of T.Ranked.place rank rows.now }
     ensures within { result ≤ length rows.now }
 {
-    for (i, x) in rows.iter().enumerate() {
-        if rank.before(x.rank()) {
-            return i;
-        }
-    }
-    rows.len()
+    rows.iter().take_while(|x| x.rank() <= rank).count()
 }
 
 // The place of the first record with a number.
 fn find_in<T: Ranked>(rows: &[T], number: u32) -> Option<usize>
     ensures { result ≡ first_number T.Numbered.num number rows.now }
 {
-    for (i, x) in rows.iter().enumerate() {
-        if x.number() == number {
-            return Some(i);
-        }
-    }
-    None
+    rows.iter().position(|x| x.number() == number)
 }
