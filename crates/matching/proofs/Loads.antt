@@ -1,5 +1,5 @@
 -- What each operation of a book does to the load of the queues.
-use Rattle.std.proofs.Common.{◌≡◌, ℕ, zero, suc, ◌+◌, ◌*◌, ◌≤◌, Bool, true, false, cond, List, [], ◌∷◌, length, set, Some, refl, ap, arith}
+use Rattle.std.proofs.Common.{Ok, Err, ◌≡◌, ℕ, zero, suc, ◌+◌, ◌*◌, ◌≤◌, Bool, true, false, cond, List, [], ◌∷◌, length, set, Some, refl, ap, arith}
 use Rattle.std.specs.List.{insert, remove, slice_get}
 use Rattle.std.specs.Option.{option_map}
 use Rattle.orders.specs.declared.side.Side.{Side}
@@ -7,11 +7,10 @@ use Rattle.orders.specs.declared.side.Side.TheVariants.{Buy, Sell}
 use Rattle.orders.specs.declared.order.Order.{Order}
 use Rattle.orders.specs.declared.order.Stop.{Stop}
 use Rattle.books.specs.Lists.{put_in, place_of}
-use Rattle.books.specs.Model.{Queues, at, with_stands, with_waits, rank_of, order_in, stop_in, put_answer, after_put, placed, taken, rewritten, rewrite_fits, record_set}
+use Rattle.books.specs.Model.{Queues, at, with_stands, with_waits, rank_of, order_in, stop_in, put_answer, after_put, placed, taken, rewritten, rewrite_fits, record_set, Put}
 use Rattle.books.specs.declared.queue.Queue.TheVariants.{Orders, Stops}
 use Rattle.books.specs.declared.queue.Record.TheVariants.{Standing, Waiting}
-use Rattle.books.specs.declared.queue.Put.{Put}
-use Rattle.books.specs.declared.queue.Put.TheVariants.{Done, Full, Twice}
+use Rattle.books.specs.declared.queue.PutError.TheVariants.{Full, Twice}
 use Rattle.matching.specs.Model.{put_back}
 use Rattle.matching.proofs.Parts.{parts_most, parts_least}
 use Rattle.matching.specs.Next.{total, parts, load, first_order, first_stop}
@@ -60,9 +59,9 @@ load_placed o q =
     omega arith
 
 pub load_put : (p : Put) (o : Order) (q : Queues) → load (after_put p (Standing o) q) ≤ load q + parts o
-load_put Done o q = omega (arith, load_placed o q)
-load_put Full o q = omega arith
-load_put Twice o q = omega arith
+load_put (Ok _) o q = omega (arith, load_placed o q)
+load_put (Err Full) o q = omega arith
+load_put (Err Twice) o q = omega arith
 
 pub load_put_back : (o : Order) (q : Queues) → load (put_back o q) ≤ load q + parts o
 unfolding put_back

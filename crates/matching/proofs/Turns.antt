@@ -1,5 +1,5 @@
 -- One event, then the rest: what the loops of the code stand on.
-use Rattle.std.proofs.Common.{◌≡◌, ℕ, zero, suc, ◌+◌, ◌<◌, ◌≤◌, Bool, true, false, cond, eqb, Some, None, Option, sym, refl, ap, ◌∙◌, subst, arith}
+use Rattle.std.proofs.Common.{Ok, Err, ◌≡◌, ℕ, zero, suc, ◌+◌, ◌<◌, ◌≤◌, Bool, true, false, cond, eqb, Some, None, Option, sym, refl, ap, ◌∙◌, subst, arith}
 use Rattle.std.proofs.lemmas.Bool.{cond_both, cond-true, eqb-true, eqb-false, eq-eqb}
 use Rattle.orders.specs.declared.side.Side.{Side}
 use Rattle.orders.specs.declared.side.Side.TheVariants.{Buy, Sell}
@@ -9,11 +9,10 @@ use Rattle.orders.specs.declared.price.Price.{Price}
 use Rattle.orders.specs.Sides.{other, fleeting}
 use Rattle.orders.specs.Lots.{lowered, renewed, within, same_investor}
 use Rattle.tapes.specs.declared.cause.Cause.TheVariants.{Leftover, OwnInvestor}
-use Rattle.books.specs.declared.queue.Put.{Put}
-use Rattle.books.specs.declared.queue.Put.TheVariants.{Done, Full, Twice}
+use Rattle.books.specs.declared.queue.PutError.TheVariants.{Full, Twice}
 use Rattle.books.specs.declared.queue.Queue.TheVariants.{Orders}
 use Rattle.books.specs.declared.queue.Record.TheVariants.{Standing}
-use Rattle.books.specs.Model.{Queues, put_answer, taken}
+use Rattle.books.specs.Model.{Queues, put_answer, taken, Put}
 use Rattle.matching.specs.Model.{Floor, Event, enters, parks, bounces, misses, drops, trades, stays, fires, pulls, amends, recalls, Fate, gone, again, kept, fate, met, held, deal, happen}
 use Rattle.matching.specs.Next.{next, next_with, first_order, first_stop, stands_or_not, leftover, meets, ripe, if_ripe, sooner, firing, go_on, settle, parts, in_hand, load, weight, settled}
 use Rattle.matching.proofs.Parts.{parts_most, parts_least, parts_renewed}
@@ -38,9 +37,9 @@ Fits? None f = Unit {0}
 Fits? (Some e) f = Fits e f
 
 fits_stands : (p : Put) (o : Order) (f : Floor) → f.hand ≡ Some o → Fits (stands_or_not p o) f
-fits_stands Done o f h = h
-fits_stands Full o f h = h
-fits_stands Twice o f h = h
+fits_stands (Ok _) o f h = h
+fits_stands (Err Full) o f h = h
+fits_stands (Err Twice) o f h = h
 
 fits_leftover : (o : Order) (f : Floor) → f.hand ≡ Some o → Fits (leftover o f.queues) f
 fits_leftover o f h = cond_both (fleeting o.validity) (drops Leftover o) (stands_or_not (put_answer (Standing o) f.queues) o) (λ e. Fits e f) (λ _. h) (λ _. fits_stands (put_answer (Standing o) f.queues) o f h)

@@ -1,5 +1,5 @@
 -- How an entry comes in.
-use Rattle.std.specs.Prelude.{ℕ, Bool, true, false, cond, ◌&&◌, ◌||◌, Some, None, Option, nat_lt}
+use Rattle.std.specs.Prelude.{Ok, Err, ℕ, Bool, true, false, cond, ◌&&◌, ◌||◌, Some, None, Option, nat_lt}
 use Rattle.orders.specs.declared.side.Validity.{Validity}
 use Rattle.orders.specs.declared.side.Validity.TheVariants.{Day, Gtc, Ioc, Fok}
 use Rattle.orders.specs.declared.price.Price.{Price}
@@ -9,9 +9,8 @@ use Rattle.orders.specs.Sides.{other}
 use Rattle.orders.specs.Rows.{order_of}
 use Rattle.orders.specs.Lots.{showing}
 use Rattle.books.specs.declared.queue.Record.TheVariants.{Waiting}
-use Rattle.books.specs.declared.queue.Put.{Put}
-use Rattle.books.specs.declared.queue.Put.TheVariants.{Done, Full, Twice}
-use Rattle.books.specs.Model.{Queues, at, put_answer}
+use Rattle.books.specs.declared.queue.PutError.TheVariants.{Full, Twice}
+use Rattle.books.specs.Model.{Queues, at, put_answer, Put}
 use Rattle.tapes.specs.declared.cause.Cause.TheVariants.{ShortReach, NoPlace}
 use Rattle.matching.specs.declared.asked.Kind.{Kind}
 use Rattle.matching.specs.declared.asked.Kind.TheVariants.{Limit, Market, StopLimit}
@@ -57,9 +56,9 @@ stop_from t o = record { order = o; trigger = t }
 
 -- a stop joins its queue, or is cancelled where put refuses it
 abbrev pub parks_or_not : Put → Stop → Event
-parks_or_not Done x = parks x
-parks_or_not Full x = bounces NoPlace x.order
-parks_or_not Twice x = bounces NoPlace x.order
+parks_or_not (Ok _) x = parks x
+parks_or_not (Err Full) x = bounces NoPlace x.order
+parks_or_not (Err Twice) x = bounces NoPlace x.order
 
 -- a market order takes the first opposite price as its limit
 abbrev pub at_market : Asked → ℕ → Option Order → Queues → Event

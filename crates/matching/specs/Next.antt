@@ -1,5 +1,5 @@
 -- What happens next on a floor, until nothing does.
-use Rattle.std.specs.Prelude.{ℕ, zero, suc, ◌+◌, ◌-◌, ◌*◌, ◌/◌, Bool, false, cond, List, [], ◌∷◌, length, Some, None, Option, nat_lt}
+use Rattle.std.specs.Prelude.{Ok, Err, ℕ, zero, suc, ◌+◌, ◌-◌, ◌*◌, ◌/◌, Bool, false, cond, List, [], ◌∷◌, length, Some, None, Option, nat_lt}
 use Rattle.orders.specs.declared.side.Side.{Side}
 use Rattle.orders.specs.declared.side.Side.TheVariants.{Buy, Sell}
 use Rattle.orders.specs.declared.price.Price.{Price}
@@ -9,9 +9,8 @@ use Rattle.orders.specs.Sides.{other, fleeting}
 use Rattle.orders.specs.Lots.{within, same_investor}
 use Rattle.books.specs.declared.queue.Queue.TheVariants.{Orders, Stops}
 use Rattle.books.specs.declared.queue.Record.TheVariants.{Standing}
-use Rattle.books.specs.declared.queue.Put.{Put}
-use Rattle.books.specs.declared.queue.Put.TheVariants.{Done, Full, Twice}
-use Rattle.books.specs.Model.{Queues, look_at, order_in, stop_in, put_answer}
+use Rattle.books.specs.declared.queue.PutError.TheVariants.{Full, Twice}
+use Rattle.books.specs.Model.{Queues, look_at, order_in, stop_in, put_answer, Put}
 use Rattle.tapes.specs.declared.cause.Cause.TheVariants.{Leftover, OwnInvestor, NoPlace}
 use Rattle.matching.specs.Model.{Floor, Event, drops, trades, stays, fires, happen}
 
@@ -23,9 +22,9 @@ first_stop s q = stop_in (look_at (Stops s) 0 q)
 
 -- the order in hand trades no more: an IOC order is cancelled, any other stands, or is cancelled where put refuses it
 abbrev pub stands_or_not : Put → Order → Event
-stands_or_not Done o = stays o
-stands_or_not Full o = drops NoPlace o
-stands_or_not Twice o = drops NoPlace o
+stands_or_not (Ok _) o = stays o
+stands_or_not (Err Full) o = drops NoPlace o
+stands_or_not (Err Twice) o = drops NoPlace o
 
 abbrev pub leftover : Order → Queues → Event
 leftover o q = cond (fleeting o.validity) (drops Leftover o) (stands_or_not (put_answer (Standing o) q) o)

@@ -14,14 +14,16 @@ use Rattle.matching.specs.declared.pick.Pick.{Pick}
 use Rattle.matching.specs.declared.pick.Pick.TheVariants.{Matching, Daily}
 use Rattle.matching.specs.Model.{Floor, pulls, happen}
 
--- a blank cell fits every value
+-- a blank cell fits every value, by how values are told apart
+abbrev pub fits : {X : Type 0} → (X → X → Bool) → Option X → X → Bool
+fits same None x = true
+fits same (Some w) x = same w x
+
 abbrev pub fits_side : Option Side → Side → Bool
-fits_side None s = true
-fits_side (Some t) s = same_side t s
+fits_side w s = fits same_side w s
 
 abbrev pub fits_number : Option ℕ → ℕ → Bool
-fits_number None n = true
-fits_number (Some m) n = m == n
+fits_number w n = fits (λ m k. m == k) w n
 
 -- all of a firm's that match every filled cell
 abbrev pub wants : Wanted → Order → Bool

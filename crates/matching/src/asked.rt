@@ -9,7 +9,7 @@ use orders::row::OrderRow;
 use orders::side::{Side, Validity};
 
 // A limit order, a market order whose leftover is a limit order, or a stop limit order.
-#[derive(Clone, Copy)]
+#[derive(Clone, Copy, Debug, PartialEq, Eq)]
 pub enum Kind {
     Limit(Price),
     Market,
@@ -35,8 +35,7 @@ impl Asked {
     pub fn order(self, price: Price, stamp: u32) -> Order
         ensures { result ≡ order_from self price stamp }
     {
-        let shown = showing(self.disclosed, self.quantity);
-        let row = OrderRow {
+        Order::from(OrderRow {
             number: stamp,
             turn: stamp,
             firm: self.firm,
@@ -45,12 +44,11 @@ impl Asked {
             price,
             quantity: self.quantity,
             leaves: self.quantity,
-            shown,
+            shown: showing(self.disclosed, self.quantity),
             disclosed: self.disclosed,
             validity: self.validity,
             investor: self.investor,
             tag: self.tag,
-        };
-        row.read()
+        })
     }
 }

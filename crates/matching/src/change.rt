@@ -48,7 +48,7 @@ impl Change {
     pub fn loses_turn(self, order: Order) -> bool
         ensures { result ≡ loses_turn self order }
     {
-        !self.new_price(order).same(order.price)
+        self.new_price(order) != order.price
             || order.quantity < self.new_quantity(order)
             || self.new_disclosed(order) != order.disclosed
     }
@@ -56,22 +56,17 @@ impl Change {
     fn changed(self, turn: u32, shown: u32, order: Order) -> Order
         ensures { result ≡ changed turn shown self order }
     {
-        let row = OrderRow {
-            number: order.number,
+        Order::from(OrderRow {
             turn,
-            firm: order.firm,
             client: self.client,
-            side: order.side,
             price: self.new_price(order),
             quantity: self.new_quantity(order),
             leaves: self.new_leaves(order),
             shown,
             disclosed: self.new_disclosed(order),
             validity: self.validity.unwrap_or(order.validity),
-            investor: order.investor,
-            tag: order.tag,
-        };
-        row.read()
+            ..OrderRow::from(order)
+        })
     }
 
     // The order in its place.

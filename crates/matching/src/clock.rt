@@ -18,8 +18,10 @@ impl Clock {
     pub fn starting(stamp: u32) -> Clock
         ensures { result ≡ started stamp }
     {
-        let stamp = if stamp < 1 { 1 } else { stamp };
-        Clock { stamp, last: None }
+        Clock {
+            stamp: stamp.max(1),
+            last: None,
+        }
     }
 
     // Draws the next stamp.

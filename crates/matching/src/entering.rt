@@ -3,7 +3,7 @@ ghost use Rattle.std.specs.Prelude.{◌≡◌, Some, None};
 ghost use Rattle.matching.specs.Model.{misses, happen};
 ghost use Rattle.matching.specs.Next.{next};
 ghost use Rattle.matching.specs.Stepping.{floor};
-ghost use Rattle.matching.specs.Entering.{order_from, all_or_none, short, judged, arrival_as, arrival, enter};
+ghost use Rattle.matching.specs.Entering.{order_from, short, judged, arrival_as, arrival, enter};
 ghost use Rattle.books.specs.Model.{Queues as Lists};
 ghost use Rattle.matching.specs.declared.asked.Kind.TheVariants.{StopLimit};
 
@@ -13,7 +13,7 @@ use crate::reaching::reach;
 use crate::settling::settle;
 use crate::trading::{cancelled, first_order};
 use books::book::Book;
-use books::queue::{Put, Record};
+use books::queue::Record;
 use orders::order::{Order, Stop};
 use orders::price::Price;
 use orders::side::Validity;
@@ -21,20 +21,11 @@ use tapes::cause::Cause;
 use tapes::line::Line;
 use tapes::tape::Tape;
 
-fn wants_all(validity: Validity) -> bool
-    ensures { result ≡ all_or_none validity }
-{
-    match validity {
-        Validity::Day | Validity::Gtc | Validity::Ioc => false,
-        Validity::Fok => true,
-    }
-}
-
 // Whether reach falls short of what the entry wants at once.
 fn is_short<B: Book>(book: &B, asked: Asked, order: Order) -> bool
     ensures { result ≡ short asked order (B.queues book.now) }
 {
-    let all = wants_all(asked.validity);
+    let all = asked.validity == Validity::Fok;
     if asked.minimum == 0 && !all {
         return false;
     }
@@ -100,11 +91,8 @@ fn park<B: Book>(
         limit: Some(order.price),
         quantity: order.quantity,
     });
-    match book.put(Record::Waiting(Stop { order, trigger })) {
-        Put::Done => {}
-        Put::Full | Put::Twice => {
-            tape.write(cancelled(order, Cause::NoPlace));
-        }
+    if book.put(Record::Waiting(Stop { order, trigger })).is_err() {
+        tape.write(cancelled(order, Cause::NoPlace));
     }
 }
 

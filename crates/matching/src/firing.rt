@@ -19,26 +19,14 @@ use tapes::tape::Tape;
 pub fn is_ripe(side: Side, last: Option<Price>, trigger: Price) -> bool
     ensures { result ≡ ripe side last trigger }
 {
-    match last {
-        None => false,
-        Some(price) => within(side, price, trigger),
-    }
+    last.is_some_and(|price| within(side, price, trigger))
 }
 
 // A side's first stop, if it is ripe.
 fn ripe_first<B: Book>(book: &B, side: Side, last: Option<Price>) -> Option<Stop>
     ensures { result ≡ if_ripe side last (first_stop side (B.queues book.now)) }
 {
-    match stop_in(book.look(Queue::Stops(side), 0)) {
-        Some(x) => {
-            if is_ripe(side, last, x.trigger) {
-                Some(x)
-            } else {
-                None
-            }
-        }
-        None => None,
-    }
+    stop_in(book.look(Queue::Stops(side), 0)).filter(|x| is_ripe(side, last, x.trigger))
 }
 
 // The ripe first of the two queues with the lower turn.
@@ -47,21 +35,11 @@ pub fn next_ripe<B: Book>(book: &B, last: Option<Price>) -> Option<(Side, Stop)>
 {
     let buy = ripe_first(book, Side::Buy, last);
     let sell = ripe_first(book, Side::Sell, last);
-    match buy {
-        Some(x) => match sell {
-            Some(y) => {
-                if y.order.turn < x.order.turn {
-                    Some((Side::Sell, y))
-                } else {
-                    Some((Side::Buy, x))
-                }
-            }
-            None => Some((Side::Buy, x)),
-        },
-        None => match sell {
-            Some(y) => Some((Side::Sell, y)),
-            None => None,
-        },
+    match (buy, sell) {
+        (Some(x), Some(y)) if y.order.turn < x.order.turn => Some((Side::Sell, y)),
+        (Some(x), _) => Some((Side::Buy, x)),
+        (None, Some(y)) => Some((Side::Sell, y)),
+        (None, None) => None,
     }
 }
 

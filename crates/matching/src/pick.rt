@@ -1,6 +1,6 @@
 // Which records a removal takes.
 ghost use Rattle.std.specs.Prelude.{◌≡◌};
-ghost use Rattle.matching.specs.Removing.{fits_side, fits_number, wants, picks};
+ghost use Rattle.matching.specs.Removing.{fits, wants, picks};
 
 use orders::order::Order;
 use orders::side::Side;
@@ -20,31 +20,10 @@ pub enum Pick {
     Daily,
 }
 
-fn fits_side(cell: Option<Side>, side: Side) -> bool
-    ensures { result ≡ fits_side cell side }
+fn fits<T: PartialEq + Copy>(cell: Option<T>, value: T) -> bool
+    ensures { result ≡ fits T.eq cell value }
 {
-    match cell {
-        None => true,
-        Some(wanted) => wanted.same(side),
-    }
-}
-
-fn fits_number(cell: Option<u64>, number: u64) -> bool
-    ensures { result ≡ fits_number cell number }
-{
-    match cell {
-        None => true,
-        Some(wanted) => wanted == number,
-    }
-}
-
-fn fits_tag(cell: Option<u8>, tag: u8) -> bool
-    ensures { result ≡ fits_number cell tag }
-{
-    match cell {
-        None => true,
-        Some(wanted) => wanted == tag,
-    }
+    cell.is_none_or(|wanted| wanted == value)
 }
 
 impl Wanted {
@@ -53,9 +32,9 @@ impl Wanted {
         ensures { result ≡ wants self order }
     {
         self.firm == order.firm
-            && fits_side(self.side, order.side)
-            && fits_tag(self.tag, order.tag)
-            && fits_number(self.investor, order.investor)
+            && fits(self.side, order.side)
+            && fits(self.tag, order.tag)
+            && fits(self.investor, order.investor)
     }
 }
 

@@ -17,8 +17,8 @@ fn is_better(side: Side, p: Price, q: Price) -> bool
     ensures { result ≡ better side p q }
 {
     match side {
-        Side::Buy => q.level() < p.level(),
-        Side::Sell => p.level() < q.level(),
+        Side::Buy => q < p,
+        Side::Sell => p < q,
     }
 }
 
@@ -50,7 +50,7 @@ fn counted(order: Order, price: Option<Price>, r: Order) -> u32
 fn shown_at(r: Order, price: Price) -> u32
     ensures { result ≡ (if same_price r.price price then r.shown else 0) }
 {
-    if r.price.same(price) { r.shown } else { 0 }
+    if r.price == price { r.shown } else { 0 }
 }
 
 // How many orders stand opposite.

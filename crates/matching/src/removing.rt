@@ -32,17 +32,13 @@ pub fn pull<B: Book>(
 fn sweep<B: Book>(book: &mut B, tape: &mut Tape, pick: Pick, cause: Cause, queue: Queue)
     ensures { (c : Numbers) → floor (B.queues book.new) tape.new c None ≡ swept pick cause queue (floor (B.queues book.old) tape.old c None) }
 {
-    let size = book.size(queue);
-    let mut at: usize = 0;
-    for _turn in 0..size.0 {
-        let Some(record) = book.look(queue, at) else {
-            return;
-        };
+    let mut at = 0;
+    while let Some(record) = book.look(queue, at) {
         if pick.picks(record.order()) {
             pull(book, tape, cause, queue, at, record);
-            continue;
+        } else {
+            at += 1;
         }
-        at += 1;
     }
 }
 

@@ -9,7 +9,7 @@ ghost use Rattle.matching.specs.Stepping.{floor};
 use crate::clock::Clock;
 use books::book::Book;
 use books::pick::order_in;
-use books::queue::{Put, Queue, Record};
+use books::queue::{Queue, Record};
 use orders::order::Order;
 use orders::side::Side;
 use tapes::cause::Cause;
@@ -46,6 +46,7 @@ fn left_of(order: Order, lots: u32) -> Option<Order>
 }
 
 // An order goes back into its queue.
+#[tactic(auto, unfolding(crate::specs::Model::put_back))]
 fn put_back<B: Book>(book: &mut B, order: Order)
     ensures { B.queues book.new ≡ put_back order (B.queues book.old) }
 {
@@ -98,10 +99,7 @@ pub fn leave<B: Book>(book: &mut B, tape: &mut Tape, order: Order)
         tape.write(cancelled(order, Cause::Leftover));
         return;
     }
-    match book.put(Record::Standing(order)) {
-        Put::Done => {}
-        Put::Full | Put::Twice => {
-            tape.write(cancelled(order, Cause::NoPlace));
-        }
+    if book.put(Record::Standing(order)).is_err() {
+        tape.write(cancelled(order, Cause::NoPlace));
     }
 }

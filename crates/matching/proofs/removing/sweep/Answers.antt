@@ -1,43 +1,62 @@
-use Rattle.std.proofs.Common.{◌≡◌, ℕ, ◌+◌, ◌-◌, None, sym, ap, ◌∙◌, arith}
+use Rattle.std.proofs.Common.{◌≡◌, ◌-◌, ◌<◌, ◌+◌, None, sym, ap, ◌∙◌, arith}
 use Rattle.orders.specs.declared.order.Order.{Order}
+use Rattle.books.specs.Model.{count}
+use Rattle.matching.specs.Clocks.{started}
 use Rattle.matching.specs.Model.{Floor}
-use Rattle.matching.specs.Stepping.{floor}
 use Rattle.matching.specs.Removing.{picks, sweep}
-use Rattle.matching.proofs.Sweeps.{at_end, pulled, passed, all_swept}
+use Rattle.matching.proofs.Sweeps.{at_end, pulled, passed, seen_within, one_taken}
 use Rattle.matching.proofs.removing.sweep.Goals as goal
 
-whole : (p : ℕ × ℕ) (n m : ℕ) → p ≡ (n, m) → p.0 ≡ n
-whole p n m e = ap (λ (x : ℕ × ℕ). x.0) e
+pub loop-record-smaller-then-picks : goal.loop-record-smaller-then-picks
+loop-record-smaller-then-picks g c =
+    let q = g.B.Book.queues c.loop-record.book in
+    let n = c.args.queue in
+    let i = c.loop-record.at in
+    let w : i < count n q = seen_within n i q c.in-Some.record (sym c.look.ensures ∙ c.in-Some.is) in
+    let t : count n (g.B.Book.queues c.pull.new.book) + 1 ≡ count n q =
+    ap (λ (f : Floor). count n f.queues + 1) (c.pull.ensures (started 1)) ∙ one_taken n i q w in
+    omega arith
 
-none_off : (n : ℕ) → n - 0 ≡ n
-none_off n = omega arith
+pub loop-record-preserved-then-picks : goal.loop-record-preserved-then-picks
+loop-record-preserved-then-picks g c d =
+    let q = g.B.Book.queues c.loop-record.book in
+    let n = c.args.queue in
+    let i = c.loop-record.at in
+    let e = sym c.look.ensures ∙ c.in-Some.is in
+    let w : i < count n q = seen_within n i q c.in-Some.record e in
+    let t : count n (g.B.Book.queues c.pull.new.book) + 1 ≡ count n q =
+    ap (λ (f : Floor). count n f.queues + 1) (c.pull.ensures d) ∙ one_taken n i q w in
+    ap (λ (f : Floor). sweep (count n (g.B.Book.queues c.pull.new.book) - i) c.args.pick c.args.cause n i f) (c.pull.ensures d)
+    ∙ sym (pulled (count n q - i) (count n (g.B.Book.queues c.pull.new.book) - i) c.args.pick c.args.cause n i _ c.in-Some.record (omega arith) e (c.if-picks.ensures ∙ ap (λ (o : Order). picks c.args.pick o) c.order.ensures))
+    ∙ c.loop-record.invariant d
 
-pub loop-turn-init : goal.loop-turn-init
-loop-turn-init g c = (λ d. ap (λ k. sweep k c.args.pick c.args.cause c.args.queue 0 (floor (g.B.Book.queues c.args.book.now) c.args.tape.now d None)) (none_off c.size-size.result.0), omega arith)
+pub overflow_add-at : goal.overflow_add-at
+overflow_add-at g c =
+    let q = g.B.Book.queues c.loop-record.book in
+    let n = c.args.queue in
+    let w : c.loop-record.at < count n q = seen_within n c.loop-record.at q c.in-Some.record (sym c.look.ensures ∙ c.in-Some.is) in
+    let b = g.met.B.Book.bounded c.loop-record.book in
+    omega (arith, b.within n, b.few n)
 
-pub returns-in_default : goal.returns-in_default
-returns-in_default g c d =
-    sym (at_end (c.size-size.result.0 - c.loop-turn._turn) c.args.pick c.args.cause c.args.queue c.loop-turn.at _ (sym c.look.ensures ∙ c.in_default.is))
-    ∙ c.loop-turn.invariant.0 d
-    ∙ ap (λ k. sweep k c.args.pick c.args.cause c.args.queue 0 (floor (g.B.Book.queues c.args.book.now) c.args.tape.now d None)) (whole _ _ _ c.size-size.ensures)
+pub loop-record-smaller : goal.loop-record-smaller
+loop-record-smaller g c =
+    let q = g.B.Book.queues c.loop-record.book in
+    let n = c.args.queue in
+    let w : c.loop-record.at < count n q = seen_within n c.loop-record.at q c.in-Some.record (sym c.look.ensures ∙ c.in-Some.is) in
+    omega arith
 
-pub loop-turn-preserved-then-picks : goal.loop-turn-preserved-then-picks
-loop-turn-preserved-then-picks g c = (
-  λ d. ap (λ (f : Floor). sweep (c.size-size.result.0 - (c.loop-turn._turn + 1)) c.args.pick c.args.cause c.args.queue c.loop-turn.at f) (c.pull.ensures d)
-      ∙ sym (pulled (c.size-size.result.0 - c.loop-turn._turn) (c.size-size.result.0 - (c.loop-turn._turn + 1)) c.args.pick c.args.cause c.args.queue c.loop-turn.at _ c.in-Some.record (omega (arith, c.loop-turn-test.true)) (sym c.look.ensures ∙ c.in-Some.is) (c.if-picks.ensures ∙ ap (λ (o : Order). picks c.args.pick o) c.order.ensures))
-      ∙ c.loop-turn.invariant.0 d,
-  omega (arith, c.loop-turn.invariant.1),
-)
-
-pub loop-turn-preserved : goal.loop-turn-preserved
-loop-turn-preserved g c = (
-  λ d. sym (passed (c.size-size.result.0 - c.loop-turn._turn) (c.size-size.result.0 - (c.loop-turn._turn + 1)) c.args.pick c.args.cause c.args.queue c.loop-turn.at _ c.in-Some.record (omega (arith, c.loop-turn-test.true)) (sym c.look.ensures ∙ c.in-Some.is) (c.if-picks.ensures ∙ ap (λ (o : Order). picks c.args.pick o) c.order.ensures))
-      ∙ c.loop-turn.invariant.0 d,
-  omega (arith, c.loop-turn.invariant.1),
-)
+pub loop-record-preserved : goal.loop-record-preserved
+loop-record-preserved g c d =
+    let q = g.B.Book.queues c.loop-record.book in
+    let n = c.args.queue in
+    let i = c.loop-record.at in
+    let e = sym c.look.ensures ∙ c.in-Some.is in
+    let w : i < count n q = seen_within n i q c.in-Some.record e in
+    sym (passed (count n q - i) (count n q - (i + 1)) c.args.pick c.args.cause n i _ c.in-Some.record (omega arith) e (c.if-picks.ensures ∙ ap (λ (o : Order). picks c.args.pick o) c.order.ensures))
+    ∙ c.loop-record.invariant d
 
 pub returns : goal.returns
 returns g c d =
-    sym (all_swept (c.size-size.result.0 - c.loop-turn._turn) c.args.pick c.args.cause c.args.queue c.loop-turn.at _ (omega (arith, c.loop-turn-test.false)))
-    ∙ c.loop-turn.invariant.0 d
-    ∙ ap (λ k. sweep k c.args.pick c.args.cause c.args.queue 0 (floor (g.B.Book.queues c.args.book.now) c.args.tape.now d None)) (whole _ _ _ c.size-size.ensures)
+    let q = g.B.Book.queues c.loop-record.book in
+    sym (at_end (count c.args.queue q - c.loop-record.at) c.args.pick c.args.cause c.args.queue c.loop-record.at _ (sym c.look.ensures ∙ c.in_default.is))
+    ∙ c.loop-record.invariant d
