@@ -1,5 +1,5 @@
 -- An entry: its arrival fits, and the tally notes it.
-use Rattle.std.proofs.Common.{◌≡◌, ℕ, ◌+◌, ◌-◌, eqb, List, [], ◌∷◌, Some, None, Option, unwrap_or, sym, refl, ap, ◌∙◌, subst, arith}
+use Rattle.std.proofs.Common.{◌≡◌, ℕ, ◌+◌, ◌-◌, eqb, List, [], ◌∷◌, Some, None, Option, unwrap_or, sym, refl, ap, ◌∙◌, subst, arith, Ok, Err}
 use Rattle.std.specs.List.{AllByRecursion, slice_get}
 use Rattle.std.specs.Option.{option_map}
 use Rattle.std.proofs.lemmas.Bool.{cond_both, cond-true, eq-eqb}
@@ -10,9 +10,8 @@ use Rattle.orders.specs.declared.order.Stop.{Stop}
 use Rattle.orders.specs.declared.row.OrderRow.{OrderRow}
 use Rattle.orders.specs.Sides.{other}
 use Rattle.books.specs.declared.queue.Record.TheVariants.{Standing, Waiting}
-use Rattle.books.specs.declared.queue.Put.{Put}
-use Rattle.books.specs.declared.queue.Put.TheVariants.{Done, Full, Twice}
-use Rattle.books.specs.Model.{Queues, at, order_in, put_answer}
+use Rattle.books.specs.declared.queue.PutError.TheVariants.{Full, Twice}
+use Rattle.books.specs.Model.{Queues, at, order_in, put_answer, Put}
 use Rattle.tapes.specs.declared.cause.Cause.{Cause}
 use Rattle.tapes.specs.declared.cause.Cause.TheVariants.{ShortReach, NoPlace}
 use Rattle.matching.specs.declared.asked.Kind.{Kind}
@@ -51,9 +50,9 @@ fits_judged : (a : Asked) (o : Order) (f : Floor) → Arrives o f → Fits (judg
 fits_judged a o f h = cond_both (short a o f.queues) (bounces ShortReach o) (enters o) (λ e. Fits e f) (λ _. h) (λ _. h)
 
 fits_parks : (m : Put) (x : Stop) (f : Floor) → put_answer (Waiting x) f.queues ≡ m → Arrives x.order f → Low x.trigger → Fits (parks_or_not m x) f
-fits_parks Done x f e h l = record { arrives = h; room_left = done_room (Waiting x) f.queues e; low = l }
-fits_parks Full x f e h l = h
-fits_parks Twice x f e h l = h
+fits_parks (Ok _) x f e h l = record { arrives = h; room_left = done_room (Waiting x) f.queues e; low = l }
+fits_parks (Err Full) x f e h l = h
+fits_parks (Err Twice) x f e h l = h
 
 first_low : (s : Side) (l : List Order) → AllByRecursion (Sided s) l → (r : Order) → order_in (option_map Standing (slice_get l 0)) ≡ Some r → Low r.price
 first_low s [] d r e = let z : ◌≡◌ {A = ℕ} 0 1 = cc in absurd (omega arith)
@@ -92,9 +91,9 @@ untraded_kind Market a stamp q t = go (first_order (other a.side) q)
 untraded_kind (StopLimit limit trigger) a stamp q t = go (put_answer (Waiting (stop_from trigger (order_from a limit stamp))) q)
   where
     go : (m : Put) → Untraded (entry a) t (parks_or_not m (stop_from trigger (order_from a limit stamp)))
-    go Done = (tt, tt)
-    go Full = ((tt, tt), tt)
-    go Twice = ((tt, tt), tt)
+    go (Ok _) = (tt, tt)
+    go (Err Full) = ((tt, tt), tt)
+    go (Err Twice) = ((tt, tt), tt)
 
 pub untraded_arrival : (a : Asked) (stamp : ℕ) (q : Queues) (t : Tally) → Untraded (entry a) t (arrival a stamp q)
 untraded_arrival a stamp q t = untraded_kind a.kind a stamp q t
@@ -193,9 +192,9 @@ module _ (a : Asked) (f : Floor) (t : Tally) (pr : Proper a) (c : Calm f) (m : M
       x = stop_from trigger (order_from a limit f.clock.stamp)
 
       go : (z : Put) → Told (parks_or_not z (stop_from trigger (order_from a limit f.clock.stamp)))
-      go Full = told_bounces NoPlace limit
-      go Twice = told_bounces NoPlace limit
-      go Done = λ fit room.
+      go (Err Full) = told_bounces NoPlace limit
+      go (Err Twice) = told_bounces NoPlace limit
+      go (Ok _) = λ fit room.
           (let o : Order = order_from a limit f.clock.stamp in
           let ev : Event = parks (stop_from trigger o) in
           record {

@@ -1,5 +1,5 @@
 -- Each event is smooth: its lines and stamps are had in full, what it puts is taken, and its orders keep their bounds.
-use Rattle.std.proofs.Common.{◌≡◌, ℕ, zero, suc, ◌-◌, ◌≤◌, Bool, true, false, cond, eqb, ltb, List, [], ◌∷◌, Some, None, Option, sym, refl, ap, ◌∙◌, subst, arith}
+use Rattle.std.proofs.Common.{◌≡◌, ℕ, zero, suc, ◌-◌, ◌≤◌, Bool, true, false, cond, eqb, ltb, List, [], ◌∷◌, Some, None, Option, sym, refl, ap, ◌∙◌, subst, arith, Ok, Err}
 use Rattle.std.specs.List.{slice_get}
 use Rattle.std.specs.Option.{option_map}
 use Rattle.std.proofs.lemmas.Bool.{cond_both, eqb-false}
@@ -13,9 +13,8 @@ use Rattle.orders.proofs.Orders.{fits_from}
 use Rattle.books.specs.declared.queue.Queue.TheVariants.{Orders}
 use Rattle.books.specs.declared.queue.Record.{Record}
 use Rattle.books.specs.declared.queue.Record.TheVariants.{Standing, Waiting}
-use Rattle.books.specs.declared.queue.Put.{Put}
-use Rattle.books.specs.declared.queue.Put.TheVariants.{Done, Full, Twice}
-use Rattle.books.specs.Model.{Queues, at, count, room, queue_of, number_of, order_in, put_answer, taken}
+use Rattle.books.specs.declared.queue.PutError.TheVariants.{Full, Twice}
+use Rattle.books.specs.Model.{Queues, at, count, room, queue_of, number_of, order_in, put_answer, taken, Put}
 use Rattle.tapes.specs.declared.cause.Cause.TheVariants.{Leftover, OwnInvestor, ShortReach}
 use Rattle.matching.specs.declared.asked.Kind.{Kind}
 use Rattle.matching.specs.declared.asked.Kind.TheVariants.{Limit, Market, StopLimit}
@@ -40,11 +39,11 @@ course-++ (then e s c) k = then e s (course-++ c k)
 
 -- no put answers twice
 
-not_twice : (b : Bool) → cond b Done Full ≡ Twice → ⊥
+not_twice : (b : Bool) → cond b (Ok tt) (Err Full) ≡ Err Twice → ⊥
 not_twice true e = let u : ◌≡◌ {A = ℕ} 0 1 = cc in omega arith
 not_twice false e = let u : ◌≡◌ {A = ℕ} 0 1 = cc in omega arith
 
-never_twice : (e : Record) (q : Queues) → queued (one_of (number_of e)) q ≡ 0 → put_answer e q ≡ Twice → ⊥
+never_twice : (e : Record) (q : Queues) → queued (one_of (number_of e)) q ≡ 0 → put_answer e q ≡ Err Twice → ⊥
 never_twice e q n k = not_twice (ltb (count (queue_of e) q) (room (queue_of e) q)) (sym (put_new e q n) ∙ k)
 
 -- the number in hand is in no queue
@@ -55,9 +54,9 @@ hand_alone f o h s = let z : of_hand (one_of o.number incoming) f.hand ≡ one_o
 -- what is next puts well
 
 well_stands : (p : Put) (o : Order) (f : Floor) → put_answer (Standing o) f.queues ≡ p → f.hand ≡ Some o → Single f → PutWell (stands_or_not p o) f
-well_stands Done o f e h s = e
-well_stands Full o f e h s = e
-well_stands Twice o f e h s = absurd (never_twice (Standing o) f.queues (hand_alone f o h s) e)
+well_stands (Ok _) o f e h s = e
+well_stands (Err Full) o f e h s = e
+well_stands (Err Twice) o f e h s = absurd (never_twice (Standing o) f.queues (hand_alone f o h s) e)
 
 well_leftover : (o : Order) (f : Floor) → f.hand ≡ Some o → Single f → PutWell (leftover o f.queues) f
 well_leftover o f h s =
@@ -161,9 +160,9 @@ well_kind (StopLimit limit trigger) a f c = go (put_answer (Waiting (stop_from t
   where
     go : (p : Put) → put_answer (Waiting (stop_from trigger (order_from a limit f.clock.stamp))) f.queues ≡ p →
         PutWell (parks_or_not p (stop_from trigger (order_from a limit f.clock.stamp))) f
-    go Done e = e
-    go Full e = (stop_from trigger (order_from a limit f.clock.stamp), refl, e)
-    go Twice e = absurd (never_twice (Waiting (stop_from trigger (order_from a limit f.clock.stamp))) f.queues (omega (arith, absent f c.sane.counts f.clock.stamp (omega arith))) e)
+    go (Ok _) e = e
+    go (Err Full) e = (stop_from trigger (order_from a limit f.clock.stamp), refl, e)
+    go (Err Twice) e = absurd (never_twice (Waiting (stop_from trigger (order_from a limit f.clock.stamp))) f.queues (omega (arith, absent f c.sane.counts f.clock.stamp (omega arith))) e)
 
 pub well_arrival : (a : Asked) (f : Floor) → Calm f → PutWell (arrival a f.clock.stamp f.queues) f
 well_arrival a f c = well_kind a.kind a f c

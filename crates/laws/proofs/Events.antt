@@ -1,5 +1,5 @@
 -- When an event may happen, what goes with it and what comes, and that it leaves good queues.
-use Rattle.std.proofs.Common.{◌≡◌, ℕ, suc, ◌+◌, ◌<◌, ◌≤◌, true, eqb, List, length, Some, None, Option, sym, refl, ap, ◌∙◌, subst, arith}
+use Rattle.std.proofs.Common.{◌≡◌, ℕ, suc, ◌+◌, ◌<◌, ◌≤◌, true, eqb, List, length, Some, None, Option, sym, refl, ap, ◌∙◌, subst, arith, Ok}
 use Rattle.std.specs.List.{remove, slice_get}
 use Rattle.std.proofs.lemmas.Bool.{cond_both, cond-true, eqb-false, eq-eqb}
 use Rattle.std.proofs.lemmas.Bool.Decides.{nat_tests}
@@ -15,9 +15,7 @@ use Rattle.books.specs.declared.queue.Queue.{Queue}
 use Rattle.books.specs.declared.queue.Queue.TheVariants.{Orders, Stops}
 use Rattle.books.specs.declared.queue.Record.{Record}
 use Rattle.books.specs.declared.queue.Record.TheVariants.{Standing, Waiting}
-use Rattle.books.specs.declared.queue.Put.{Put}
-use Rattle.books.specs.declared.queue.Put.TheVariants.{Done}
-use Rattle.books.specs.Model.{Queues, at, rank_of, count, room, order_of_record, put_answer, after_put, placed, taken, rewritten, rewrite_fits, record_set}
+use Rattle.books.specs.Model.{Queues, at, rank_of, count, room, order_of_record, put_answer, after_put, placed, taken, rewritten, rewrite_fits, record_set, Put}
 use Rattle.matching.specs.Model.{Floor, Event, enters, parks, bounces, misses, drops, trades, stays, fires, pulls, amends, recalls, Fate, gone, again, kept, fate, put_back, met, held, deal, happen}
 use Rattle.laws.specs.Tally.{Place, stands, waits, incoming}
 use Rattle.laws.proofs.Lists.{length_taken, all_nth}
@@ -185,7 +183,7 @@ rewrites i x o q e k =
 -- the book takes back an order that shows again
 pub put_back_done : (r x : Order) (f : Floor) → x.side ≡ r.side → x.number ≡ r.number → slice_get (at r.side f.queues.stands) 0 ≡ Some r →
     Good f.queues → Single f →
-    put_answer (Standing x) (taken (Orders r.side) 0 f.queues) ≡ Done
+    put_answer (Standing x) (taken (Orders r.side) 0 f.queues) ≡ Ok tt
 put_back_done r x f d n e g k =
     let q : Queues = f.queues in
     let s : Side = r.side in

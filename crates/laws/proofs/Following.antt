@@ -1,5 +1,5 @@
 -- What is next fits, there is room for it, and so one event follows another until nothing is next.
-use Rattle.std.proofs.Common.{◌≡◌, ℕ, zero, suc, ◌+◌, ◌<◌, ◌≤◌, Bool, true, false, cond, ltb, List, [], ◌∷◌, length, is_some, Some, None, Option, sym, refl, ap, ◌∙◌, subst, arith, length-append}
+use Rattle.std.proofs.Common.{◌≡◌, ℕ, zero, suc, ◌+◌, ◌<◌, ◌≤◌, Bool, true, false, cond, ltb, List, [], ◌∷◌, length, is_some, Some, None, Option, sym, refl, ap, ◌∙◌, subst, arith, length-append, Ok, Err}
 use Rattle.std.specs.List.{AllByRecursion, slice_get}
 use Rattle.std.specs.Option.{option_map}
 use Rattle.std.proofs.lemmas.Bool.{cond_both, ltb-true}
@@ -13,9 +13,8 @@ use Rattle.orders.specs.Sides.{other, fleeting}
 use Rattle.orders.specs.Lots.{within, same_investor}
 use Rattle.books.specs.declared.queue.Record.{Record}
 use Rattle.books.specs.declared.queue.Record.TheVariants.{Standing, Waiting}
-use Rattle.books.specs.declared.queue.Put.{Put}
-use Rattle.books.specs.declared.queue.Put.TheVariants.{Done, Full, Twice}
-use Rattle.books.specs.Model.{Queues, at, rank_of, stop_rank_of, count, room, queue_of, number_of, found, order_in, stop_in, put_answer}
+use Rattle.books.specs.declared.queue.PutError.TheVariants.{Full, Twice}
+use Rattle.books.specs.Model.{Queues, at, rank_of, stop_rank_of, count, room, queue_of, number_of, found, order_in, stop_in, put_answer, Put}
 use Rattle.tapes.specs.declared.cause.Cause.TheVariants.{Leftover, OwnInvestor}
 use Rattle.matching.specs.Model.{Floor, Event, enters, parks, bounces, misses, drops, trades, stays, fires, pulls, amends, recalls, Fate, gone, again, kept, fate, deal, happen}
 use Rattle.matching.specs.Next.{next, next_with, first_stop, stands_or_not, leftover, meets, ripe, if_ripe, sooner, firing, settle, weight, settled}
@@ -87,19 +86,19 @@ Next? None f = Unit {0}
 Next? (Some e) f = Next e f
 
 -- a put that is done found room
-pub done_room : (e : Record) (q : Queues) → put_answer e q ≡ Done → count (queue_of e) q < room (queue_of e) q
+pub done_room : (e : Record) (q : Queues) → put_answer e q ≡ Ok tt → count (queue_of e) q < room (queue_of e) q
 done_room e q h = go (ltb (count (queue_of e) q) (room (queue_of e) q)) refl h
   where
-    go : (b : Bool) → ltb (count (queue_of e) q) (room (queue_of e) q) ≡ b → cond b (cond (is_some (found (number_of e) q)) Twice Done) Full ≡ Done →
+    go : (b : Bool) → ltb (count (queue_of e) q) (room (queue_of e) q) ≡ b → cond b (cond (is_some (found (number_of e) q)) (Err Twice) (Ok tt)) (Err Full) ≡ Ok tt →
         count (queue_of e) q < room (queue_of e) q
     go true k _ = ltb-true (count (queue_of e) q) (room (queue_of e) q) k
     go false k z = let u : ◌≡◌ {A = ℕ} 0 1 = cc in absurd (omega arith)
 
 next_stands : (p : Put) (o : Order) (f : Floor) → put_answer (Standing o) f.queues ≡ p → f.hand ≡ Some o →
     Beyond o.side o.price (at (other o.side) f.queues.stands) → Next (stands_or_not p o) f
-next_stands Done o f e h b = (record { in_hand = h; beyond = b; room_left = done_room (Standing o) f.queues e }, tt)
-next_stands Full o f e h b = (h, tt)
-next_stands Twice o f e h b = (h, tt)
+next_stands (Ok _) o f e h b = (record { in_hand = h; beyond = b; room_left = done_room (Standing o) f.queues e }, tt)
+next_stands (Err Full) o f e h b = (h, tt)
+next_stands (Err Twice) o f e h b = (h, tt)
 
 next_leftover : (o : Order) (f : Floor) → f.hand ≡ Some o → Beyond o.side o.price (at (other o.side) f.queues.stands) → Next (leftover o f.queues) f
 next_leftover o f h b =

@@ -1,5 +1,5 @@
 -- Sums over all orders, wherever they are: what a take, a put and a rewrite do to them.
-use Rattle.std.proofs.Common.{◌≡◌, ℕ, ◌+◌, ◌<◌, ◌≤◌, cond, ltb, List, [], ◌∷◌, set, is_some, Some, None, Option, refl, ap, ◌∙◌, arith}
+use Rattle.std.proofs.Common.{◌≡◌, ℕ, ◌+◌, ◌<◌, ◌≤◌, cond, ltb, List, [], ◌∷◌, set, is_some, Some, None, Option, refl, ap, ◌∙◌, arith, Ok, Err}
 use Rattle.std.specs.List.{remove, slice_get}
 use Rattle.std.proofs.lemmas.Bool.{cond-true, lt-ltb}
 use Rattle.orders.specs.declared.side.Side.{Side}
@@ -11,7 +11,7 @@ use Rattle.books.specs.declared.queue.Queue.{Queue}
 use Rattle.books.specs.declared.queue.Queue.TheVariants.{Orders, Stops}
 use Rattle.books.specs.declared.queue.Record.{Record}
 use Rattle.books.specs.declared.queue.Record.TheVariants.{Standing, Waiting}
-use Rattle.books.specs.declared.queue.Put.TheVariants.{Done, Full, Twice}
+use Rattle.books.specs.declared.queue.PutError.TheVariants.{Full, Twice}
 use Rattle.books.specs.Model.{Queues, at, with_stands, with_waits, rank_of, stop_rank_of, count, room, queue_of, number_of, found, put_answer, placed, taken, record_set}
 use Rattle.matching.specs.Model.{Floor}
 use Rattle.matching.specs.Next.{total}
@@ -156,8 +156,8 @@ none_found n q e =
     ) refl
 
 -- a put of a number that nobody has is done where there is room, and never answers twice
-pub put_new : (e : Record) (q : Queues) → queued (one_of (number_of e)) q ≡ 0 → put_answer e q ≡ cond (ltb (count (queue_of e) q) (room (queue_of e) q)) Done Full
-put_new e q n = ap (λ (m : Option (Queue × ℕ)). cond (ltb (count (queue_of e) q) (room (queue_of e) q)) (cond (is_some m) Twice Done) Full) (none_found (number_of e) q n)
+pub put_new : (e : Record) (q : Queues) → queued (one_of (number_of e)) q ≡ 0 → put_answer e q ≡ cond (ltb (count (queue_of e) q) (room (queue_of e) q)) (Ok tt) (Err Full)
+put_new e q n = ap (λ (m : Option (Queue × ℕ)). cond (ltb (count (queue_of e) q) (room (queue_of e) q)) (cond (is_some m) (Err Twice) (Ok tt)) (Err Full)) (none_found (number_of e) q n)
 
-pub put_done : (e : Record) (q : Queues) → queued (one_of (number_of e)) q ≡ 0 → count (queue_of e) q < room (queue_of e) q → put_answer e q ≡ Done
-put_done e q n r = put_new e q n ∙ cond-true (ltb (count (queue_of e) q) (room (queue_of e) q)) Done Full (lt-ltb (count (queue_of e) q) (room (queue_of e) q) r)
+pub put_done : (e : Record) (q : Queues) → queued (one_of (number_of e)) q ≡ 0 → count (queue_of e) q < room (queue_of e) q → put_answer e q ≡ Ok tt
+put_done e q n r = put_new e q n ∙ cond-true (ltb (count (queue_of e) q) (room (queue_of e) q)) (Ok tt) (Err Full) (lt-ltb (count (queue_of e) q) (room (queue_of e) q) r)

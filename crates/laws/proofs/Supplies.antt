@@ -1,5 +1,5 @@
 -- Twenty free lines and twenty undrawn stamps for each record and one more are enough.
-use Rattle.std.proofs.Common.{◌≡◌, ℕ, suc, ◌+◌, ◌*◌, ◌≤◌, List, [], ◌∷◌, length, Some, None, Option, ap, ◌∙◌, arith, length-append}
+use Rattle.std.proofs.Common.{◌≡◌, ℕ, suc, ◌+◌, ◌*◌, ◌≤◌, List, [], ◌∷◌, length, Some, None, Option, ap, ◌∙◌, arith, length-append, Ok, Err}
 use Rattle.std.specs.List.{slice_get}
 use Rattle.std.proofs.lemmas.Bool.{cond_both}
 use Rattle.orders.specs.declared.side.Side.{Side}
@@ -10,9 +10,8 @@ use Rattle.orders.specs.Sides.{other}
 use Rattle.books.specs.Lists.{put_in}
 use Rattle.books.specs.declared.queue.Queue.TheVariants.{Orders}
 use Rattle.books.specs.declared.queue.Record.TheVariants.{Waiting}
-use Rattle.books.specs.declared.queue.Put.{Put}
-use Rattle.books.specs.declared.queue.Put.TheVariants.{Done, Full, Twice}
-use Rattle.books.specs.Model.{Queues, at, with_waits, stop_rank_of, taken, put_answer}
+use Rattle.books.specs.declared.queue.PutError.TheVariants.{Full, Twice}
+use Rattle.books.specs.Model.{Queues, at, with_waits, stop_rank_of, taken, put_answer, Put}
 use Rattle.tapes.specs.declared.cause.Cause.TheVariants.{ShortReach}
 use Rattle.matching.specs.declared.asked.Kind.{Kind}
 use Rattle.matching.specs.declared.asked.Kind.TheVariants.{Limit, Market, StopLimit}
@@ -116,9 +115,9 @@ begins_kind Market a stamp q = go (first_order (other a.side) q)
 begins_kind (StopLimit limit trigger) a stamp q = go (put_answer (Waiting (stop_from trigger (order_from a limit stamp))) q)
   where
     go : (m : Put) → Begins (parks_or_not m (stop_from trigger (order_from a limit stamp)))
-    go Done = tt
-    go Full = tt
-    go Twice = tt
+    go (Ok _) = tt
+    go (Err Full) = tt
+    go (Err Twice) = tt
 
 pub begins_arrival : (a : Asked) (stamp : ℕ) (q : Queues) → Begins (arrival a stamp q)
 begins_arrival a stamp q = begins_kind a.kind a stamp q

@@ -1,7 +1,7 @@
 -- Inside an accepted step nothing runs out and nothing is lost: each event writes its lines in full and draws its stamps, the book takes what it is given,
 -- and every order is within its bounds.
 --   course   events, one after another, from the floor before a step to the floor after it
-use Rattle.std.specs.Prelude.{◌≡◌, ℕ, ◌+◌, ◌-◌, ◌<◌, min, true, false, List, [], ◌∷◌, ◌++◌, None, Ok}
+use Rattle.std.specs.Prelude.{◌≡◌, ℕ, ◌+◌, ◌-◌, ◌<◌, min, true, false, List, [], ◌∷◌, ◌++◌, None, Ok, Err}
 use Rattle.orders.specs.declared.price.Price.{Price}
 use Rattle.orders.specs.declared.order.Order.{Order}
 use Rattle.orders.specs.declared.order.Stop.{Stop}
@@ -10,7 +10,7 @@ use Rattle.orders.specs.Sides.{other}
 use Rattle.orders.specs.Lots.{showing, with_lots, renewed}
 use Rattle.books.specs.declared.queue.Queue.TheVariants.{Orders}
 use Rattle.books.specs.declared.queue.Record.TheVariants.{Standing, Waiting}
-use Rattle.books.specs.declared.queue.Put.TheVariants.{Done, Full}
+use Rattle.books.specs.declared.queue.PutError.TheVariants.{Full}
 use Rattle.books.specs.Model.{Queues, put_answer, taken, order_of_record}
 use Rattle.tapes.specs.declared.cause.Cause.{Cause}
 use Rattle.tapes.specs.declared.cause.Cause.TheVariants.{Asked, Leftover, ShortReach, OwnInvestor, NoPlace, NoOpposite, DayClosed}
@@ -66,7 +66,7 @@ stamps (recalls s i o) = 1
 
 abbrev pub fate_put : Fate → (lots stamp : ℕ) → Order → Queues → Type 0
 fate_put gone lots stamp r q = Unit {0}
-fate_put again lots stamp r q = put_answer (Standing (renewed stamp lots r)) q ≡ Done
+fate_put again lots stamp r q = put_answer (Standing (renewed stamp lots r)) q ≡ Ok tt
 fate_put kept lots stamp r q = Unit {0}
 
 abbrev pub IfNoPlace : Cause → Type 0 → Type 0
@@ -80,12 +80,12 @@ IfNoPlace DayClosed A = Unit {0}
 
 abbrev pub PutWell : Event → Floor → Type 0
 PutWell (enters o) f = Unit {0}
-PutWell (parks x) f = put_answer (Waiting x) f.queues ≡ Done
-PutWell (bounces cause o) f = IfNoPlace cause ((x : Stop) × (x.order ≡ o) × (put_answer (Waiting x) f.queues ≡ Full))
+PutWell (parks x) f = put_answer (Waiting x) f.queues ≡ Ok tt
+PutWell (bounces cause o) f = IfNoPlace cause ((x : Stop) × (x.order ≡ o) × (put_answer (Waiting x) f.queues ≡ Err Full))
 PutWell (misses n k) f = Unit {0}
-PutWell (drops cause o) f = IfNoPlace cause (put_answer (Standing o) f.queues ≡ Full)
+PutWell (drops cause o) f = IfNoPlace cause (put_answer (Standing o) f.queues ≡ Err Full)
 PutWell (trades o r) f = fate_put (fate (deal o r) r) (deal o r) f.clock.stamp r (taken (Orders (other o.side)) 0 f.queues)
-PutWell (stays o) f = put_answer (Standing o) f.queues ≡ Done
+PutWell (stays o) f = put_answer (Standing o) f.queues ≡ Ok tt
 PutWell (fires s x) f = Unit {0}
 PutWell (pulls cause n i r) f = Unit {0}
 PutWell (amends i o) f = Unit {0}

@@ -7,7 +7,7 @@ ghost use Rattle.venue.specs.Days.{state, answer, step};
 ghost use Rattle.venue.specs.declared.day.Day.TheVariants.{Open};
 
 use crate::day::OpenDay;
-use crate::known::{Found, client_free, known, standing_in};
+use crate::known::{Claim, Found, known, standing_in};
 use crate::plan::Plan;
 use crate::rooms::{lines_free, stamps_free};
 use books::book::Book;
@@ -68,7 +68,12 @@ fn change_told<B: Book>(
     lines_free(book, tape)?;
     stamps_free(book, clock)?;
     let found = known(book, asked.firm, asked.number)?;
-    client_free(book, asked.firm, asked.change.client, Some(asked.number))?;
+    let claim = Claim {
+        firm: asked.firm,
+        client: asked.change.client,
+        except: Some(asked.number),
+    };
+    claim.check(book)?;
     plan_for(asked, found)
 }
 

@@ -7,7 +7,7 @@ ghost use Rattle.venue.specs.Days.{state, answer, step};
 ghost use Rattle.venue.specs.declared.day.Day.TheVariants.{Open};
 
 use crate::day::OpenDay;
-use crate::known::client_free;
+use crate::known::Claim;
 use crate::rooms::{lines_free, stamps_free};
 use books::book::Book;
 use checks::entries::read_entry;
@@ -30,7 +30,12 @@ fn entry_told<B: Book>(
     let asked = read_entry(form)?;
     lines_free(book, tape)?;
     stamps_free(book, clock)?;
-    client_free(book, asked.firm, asked.client, None)?;
+    let claim = Claim {
+        firm: asked.firm,
+        client: asked.client,
+        except: None,
+    };
+    claim.check(book)?;
     Ok(asked)
 }
 

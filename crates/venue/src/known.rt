@@ -1,7 +1,7 @@
 // Which order or stop a firm names, and whether a client number is held.
 ghost use Rattle.std.specs.Prelude.{◌≡◌};
 ghost use Rattle.std.specs.List.{slice_get};
-ghost use Rattle.venue.specs.Known.{orders_in, is_other, holds, held_in, client_held, client_free, known, standing_in};
+ghost use Rattle.venue.specs.Known.{orders_in, holds, held_in, client_held, client_free, known, standing_in};
 
 use books::book::Book;
 use books::queue::{Queue, Record};
@@ -17,68 +17,64 @@ pub struct Found {
     pub record: Record,
 }
 
-fn is_other(except: Option<u32>, number: u32) -> bool
-    ensures { result ≡ is_other except number }
-{
-    match except {
-        None => true,
-        Some(own) => own != number,
-    }
-}
-
-fn does_hold(firm: u16, client: u32, except: Option<u32>, order: Order) -> bool
-    ensures { result ≡ holds firm client except order }
-{
-    order.firm == firm && order.client == client && is_other(except, order.number)
+// A firm's client number, which no other record of the firm may hold; the order that it is for does not count.
+#[derive(Clone, Copy)]
+pub struct Claim {
+    pub firm: u16,
+    pub client: u32,
+    pub except: Option<u32>,
 }
 
 // The order at a place of a queue, that of a stop too.
 fn order_at<B: Book>(book: &B, queue: Queue, place: usize) -> Option<Order>
     ensures { result ≡ slice_get (orders_in queue (B.queues book.now)) place }
 {
-    match book.look(queue, place) {
-        Some(record) => Some(record.order()),
-        None => None,
-    }
+    book.look(queue, place).map(Record::order)
 }
 
-// Whether another record of a queue holds the firm's client number.
-fn held_in<B: Book>(book: &B, firm: u16, client: u32, except: Option<u32>, queue: Queue) -> bool
-    ensures { result ≡ held_in firm client except queue (B.queues book.now) }
-{
-    let size = book.size(queue);
-    for place in 0..size.0 {
-        let Some(order) = order_at(book, queue, place) else {
-            return false;
-        };
-        if does_hold(firm, client, except, order) {
-            return true;
+impl Claim {
+    fn is_held_by(self, order: Order) -> bool
+        ensures { result ≡ holds self.firm self.client self.except order }
+    {
+        order.firm == self.firm
+            && order.client == self.client
+            && self.except.is_none_or(|own| own != order.number)
+    }
+
+    // Whether another record of a queue holds the client number.
+    fn is_held_in<B: Book>(self, book: &B, queue: Queue) -> bool
+        ensures { result ≡ held_in self.firm self.client self.except queue (B.queues book.now) }
+    {
+        let (count, _) = book.size(queue);
+        for place in 0..count {
+            let Some(order) = order_at(book, queue, place) else {
+                return false;
+            };
+            if self.is_held_by(order) {
+                return true;
+            }
         }
+        false
     }
-    false
-}
 
-fn is_client_held<B: Book>(book: &B, firm: u16, client: u32, except: Option<u32>) -> bool
-    ensures { result ≡ client_held firm client except (B.queues book.now) }
-{
-    held_in(book, firm, client, except, Queue::Orders(Side::Buy))
-        || held_in(book, firm, client, except, Queue::Orders(Side::Sell))
-        || held_in(book, firm, client, except, Queue::Stops(Side::Buy))
-        || held_in(book, firm, client, except, Queue::Stops(Side::Sell))
-}
+    fn is_held<B: Book>(self, book: &B) -> bool
+        ensures { result ≡ client_held self.firm self.client self.except (B.queues book.now) }
+    {
+        self.is_held_in(book, Queue::Orders(Side::Buy))
+            || self.is_held_in(book, Queue::Orders(Side::Sell))
+            || self.is_held_in(book, Queue::Stops(Side::Buy))
+            || self.is_held_in(book, Queue::Stops(Side::Sell))
+    }
 
-pub fn client_free<B: Book>(
-    book: &B,
-    firm: u16,
-    client: u32,
-    except: Option<u32>,
-) -> Result<(), Refusal>
-    ensures { result ≡ client_free firm client except (B.queues book.now) }
-{
-    if is_client_held(book, firm, client, except) {
-        Err(Refusal::ClientHeld)
-    } else {
-        Ok(())
+    // Whether the client number is free.
+    pub fn check<B: Book>(self, book: &B) -> Result<(), Refusal>
+        ensures { result ≡ client_free self.firm self.client self.except (B.queues book.now) }
+    {
+        if self.is_held(book) {
+            Err(Refusal::ClientHeld)
+        } else {
+            Ok(())
+        }
     }
 }
 
@@ -86,12 +82,8 @@ pub fn client_free<B: Book>(
 pub fn known<B: Book>(book: &B, firm: u16, number: u32) -> Result<Found, Refusal>
     ensures { result ≡ known firm number (B.queues book.now) }
 {
-    let Some((queue, at)) = book.find(number) else {
-        return Err(Refusal::UnknownOrder);
-    };
-    let Some(record) = book.look(queue, at) else {
-        return Err(Refusal::UnknownOrder);
-    };
+    let (queue, at) = book.find(number).ok_or(Refusal::UnknownOrder)?;
+    let record = book.look(queue, at).ok_or(Refusal::UnknownOrder)?;
     if record.order().firm != firm {
         return Err(Refusal::UnknownOrder);
     }

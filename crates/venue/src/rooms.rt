@@ -16,8 +16,7 @@ fn count<B: Book>(book: &B, queue: Queue) -> usize
     ensures told { result ≡ count queue (B.queues book.now) }
     ensures small { result ≤ 1000000 }
 {
-    let size = book.size(queue);
-    size.0
+    book.size(queue).0
 }
 
 // Twenty lines or stamps for each record and one more.

@@ -15,7 +15,8 @@ pub fn set_up<B: Book>(book: &mut B, tape: &mut Tape, day: u16, stamp: u32) -> O
 {
     book.clear();
     tape.clear();
-    let day = if day < 1 { 1 } else { day };
-    let clock = Clock::starting(stamp);
-    OpenDay { day, clock }
+    OpenDay {
+        day: day.max(1),
+        clock: Clock::starting(stamp),
+    }
 }
