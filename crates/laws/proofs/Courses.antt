@@ -39,7 +39,7 @@ course-++ (then e s c) k = then e s (course-++ c k)
 
 -- no put answers twice
 
-not_twice : (b : Bool) → cond b (Ok tt) (Err Full) ≡ Err Twice → ⊥
+not_twice : (b : Bool) → ◌≡◌ {A = Put} (cond b (Ok tt) (Err Full)) (Err Twice) → ⊥
 not_twice true e = let u : ◌≡◌ {A = ℕ} 0 1 = cc in omega arith
 not_twice false e = let u : ◌≡◌ {A = ℕ} 0 1 = cc in omega arith
 

@@ -89,7 +89,7 @@ Next? (Some e) f = Next e f
 pub done_room : (e : Record) (q : Queues) → put_answer e q ≡ Ok tt → count (queue_of e) q < room (queue_of e) q
 done_room e q h = go (ltb (count (queue_of e) q) (room (queue_of e) q)) refl h
   where
-    go : (b : Bool) → ltb (count (queue_of e) q) (room (queue_of e) q) ≡ b → cond b (cond (is_some (found (number_of e) q)) (Err Twice) (Ok tt)) (Err Full) ≡ Ok tt →
+    go : (b : Bool) → ltb (count (queue_of e) q) (room (queue_of e) q) ≡ b → ◌≡◌ {A = Put} (cond b (cond (is_some (found (number_of e) q)) (Err Twice) (Ok tt)) (Err Full)) (Ok tt) →
         count (queue_of e) q < room (queue_of e) q
     go true k _ = ltb-true (count (queue_of e) q) (room (queue_of e) q) k
     go false k z = let u : ◌≡◌ {A = ℕ} 0 1 = cc in absurd (omega arith)
