@@ -13,12 +13,8 @@ impl Cells {
         ensures { result ≡ number_in (slice_index_or self.values place None) }
     {
         match self.at(place) {
-            Some(value) => match value {
-                Value::Number(n) => Some(n),
-                Value::Byte(_) => None,
-                Value::Price(_) => None,
-            },
-            None => None,
+            Some(Value::Number(n)) => Some(n),
+            _ => None,
         }
     }
 
@@ -26,12 +22,8 @@ impl Cells {
         ensures { result ≡ byte_in (slice_index_or self.values place None) }
     {
         match self.at(place) {
-            Some(value) => match value {
-                Value::Number(_) => None,
-                Value::Byte(b) => Some(b),
-                Value::Price(_) => None,
-            },
-            None => None,
+            Some(Value::Byte(b)) => Some(b),
+            _ => None,
         }
     }
 
@@ -39,12 +31,8 @@ impl Cells {
         ensures { result ≡ price_in (slice_index_or self.values place None) }
     {
         match self.at(place) {
-            Some(value) => match value {
-                Value::Number(_) => None,
-                Value::Byte(_) => None,
-                Value::Price(p) => Some(p),
-            },
-            None => None,
+            Some(Value::Price(p)) => Some(p),
+            _ => None,
         }
     }
 
