@@ -42,6 +42,7 @@ pub fn read_line(line: &[u8]) -> Result<Option<Form>, BadWord>
 }
 
 // The worked lines are read as they say.
+#[tactic(auto, unfolding(crate::specs::Lines::read_words))]
 pub fn worked() -> bool
     ensures { Worked }
 {

@@ -68,7 +68,7 @@ impl Word {
 
     // What is said of a word that spoils its line.
     pub(crate) fn spoils(self) -> BadWord
-        requires { self.start < 18446744073709551615 }
+        requires { self.start < usize.MAX }
         ensures { result ≡ bad_word self }
     {
         BadWord {
