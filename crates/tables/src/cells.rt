@@ -1,5 +1,5 @@
 // The cells of a line, filled word by word.
-ghost use Rattle.std.specs.Prelude.{◌≡◌, ◌+◌, ◌≤◌, length, drop, None, slice_index_or};
+ghost use Rattle.std.specs.Prelude.{◌≡◌, None, slice_index_or};
 ghost use Rattle.std.specs.Option.{option_map};
 ghost use Rattle.tables.specs.Cells.{blank_cells, with_word};
 

@@ -9,6 +9,7 @@ use orders::price::Price;
 use sheets::letter::Letter;
 
 impl Cells {
+    // One for each kind of value: a trait with an impl for u64, u8 and Price is longer than these three.
     fn number(self, place: usize) -> Option<u64>
         ensures { result ≡ number_in (slice_index_or self.values place None) }
     {

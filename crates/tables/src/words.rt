@@ -66,7 +66,7 @@ impl Word {
         part_of(line, self.start, self.size)
     }
 
-    // What is said of a word that spoils its line.
+    // What is said of a word that spoils its line. Not a `From`, which could not ask that the place fits.
     pub(crate) fn spoils(self) -> BadWord
         requires { self.start < usize.MAX }
         ensures { result ≡ bad_word self }

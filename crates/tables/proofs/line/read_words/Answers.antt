@@ -10,7 +10,7 @@ returns-in_err-cells-clause-told c =
     let i = c.loop-word.invariant in
     let h = rw c.bytes.ensures at c.with_word.ensures in
     let e = one_more i.1 c.args.letter c.args.line.now c.loop-word.at c.loop-word.cells.values c.in-Some.word c.with_word.result c.spoils.result
-        c.in-Some.ensures.told c.in-Some.ensures.within i.2 h c.spoils.ensures in
+    c.in-Some.ensures.told c.in-Some.ensures.within i.2 h c.spoils.ensures in
     search rules
 
 pub loop-word-preserved : goal.loop-word-preserved
@@ -18,7 +18,7 @@ loop-word-preserved c =
     let i = c.loop-word.invariant in
     let h = rw c.bytes.ensures at c.with_word.ensures in
     let e = one_more i.1 c.args.letter c.args.line.now c.loop-word.at c.loop-word.cells.values c.in-Some.word c.with_word.result c.spoils.result
-        c.in-Some.ensures.told c.in-Some.ensures.within i.2 h c.spoils.ensures in
+    c.in-Some.ensures.told c.in-Some.ensures.within i.2 h c.spoils.ensures in
     (c.in-Some.ensures.within.1, e.0, e.1, search rules)
 
 pub returns-clause-told : goal.returns-clause-told
