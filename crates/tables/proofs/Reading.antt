@@ -1,52 +1,50 @@
--- One word of a line.
-use Rattle.std.proofs.Common.{◌≡◌, ℕ, suc, ◌+◌, ◌≤◌, Bool, cond, List, Ok, Option, Result, sym, refl, ap, ◌∙◌, arith}
+-- The words of a line, one by one.
+use Rattle.std.proofs.Common.{◌≡◌, ℕ, zero, suc, ◌+◌, ◌≤◌, List, length, None, Some, Ok, Err, Option, Result, refl, ap, sym, ◌∙◌, arith}
+use Rattle.std.specs.Option.{option_map, ok_or}
 use Rattle.std.proofs.lemmas.Bool.{ne_eqb}
 use Rattle.sheets.specs.Layout.{part}
 use Rattle.sheets.specs.declared.letter.Letter.{Letter}
+use Rattle.tables.specs.declared.cells.Cells.{Cells}
 use Rattle.tables.specs.declared.words.Word.{Word}
 use Rattle.tables.specs.declared.words.BadWord.{BadWord}
-use Rattle.tables.specs.Words.{next_word, bad_word, InLine}
+use Rattle.tables.specs.Words.{next_word, bad_word}
 use Rattle.tables.specs.Cells.{Values, with_word}
 use Rattle.tables.specs.Lines.{go_on, read_word, read_words}
 
-abbrev Rest : Type 0
-Rest = Values → Result Values BadWord
-
--- what a word of the line does: nothing where it has no bytes, or it is read
-idle : (letter : Letter) (line : List ℕ) (w : Word) (cells : Values) (rest : Rest) → w.size ≡ 0 → read_word letter line w cells rest ≡ Ok cells
-idle letter line w cells rest z = rw z refl
-
-done : (letter : Letter) (line : List ℕ) (w : Word) (cells : Values) (rest : Rest) (bytes : List ℕ) (o : Option Values)
-    → (w.size ≡ 0 → ⊥) → bytes ≡ part line w.start w.size → o ≡ with_word letter cells bytes → read_word letter line w cells rest ≡ go_on o w rest
-done letter line w cells rest bytes o z b h =
-    ap (λ (t : Bool). cond t (Ok cells) (go_on (with_word letter cells (part line w.start w.size)) w rest)) (ne_eqb w.size 0 z)
-    ∙ ap (λ (v : Option Values). go_on v w rest) (sym (h ∙ ap (with_word letter cells) b))
-
--- the words from a place on, of which the first is w
-abbrev with_first : ℕ → Letter → List ℕ → Values → Word → Result Values BadWord
-with_first n letter line cells w = read_word letter line w cells (λ filled. read_words n letter line (w.start + w.size) filled)
-
-first : (n m : ℕ) (letter : Letter) (line : List ℕ) (at : ℕ) (cells : Values) (w : Word) → n ≡ suc m → w ≡ next_word line at
-    → read_words n letter line at cells ≡ with_first m letter line cells w
+-- no word is left
+pub no_more : (n : ℕ) (letter : Letter) (line : List ℕ) (at : ℕ) (cells : Values) → (next_word line at).size ≡ 0 → read_words n letter line at cells ≡ Ok cells
 unfolding read_words
-first n m letter line at cells w k e = rw k (ap (with_first m letter line cells) (sym e))
+no_more zero letter line at cells z = refl
+no_more (suc n) letter line at cells z = rw z refl
 
-pub no_more : (m : ℕ) (letter : Letter) (line : List ℕ) (at : ℕ) (cells : Values) (w : Word) (n : ℕ) → n ≡ suc m → w ≡ next_word line at
-    → w.size ≡ 0 → read_words n letter line at cells ≡ Ok cells
-no_more m letter line at cells w n k e z = first n m letter line at cells w k e ∙ idle letter line w cells _ z
+-- what comes of a word, by the cells that it leaves
+abbrev pub goes_on : Result Cells BadWord → (Values → Result Values BadWord) → Result Values BadWord
+goes_on (Ok cells) rest = rest cells.values
+goes_on (Err bad) rest = Err bad
 
-pub one_more : (m : ℕ) (letter : Letter) (line : List ℕ) (at : ℕ) (cells : Values) (w : Word) (n : ℕ) → n ≡ suc m → w ≡ next_word line at
-    → (w.size ≡ 0 → ⊥) → (bytes : List ℕ) (o : Option Values) → bytes ≡ part line w.start w.size → o ≡ with_word letter cells bytes
-    → read_words n letter line at cells ≡ go_on o w (λ filled. read_words m letter line (w.start + w.size) filled)
-one_more m letter line at cells w n k e z bytes o b h = first n m letter line at cells w k e ∙ done letter line w cells _ bytes o z b h
+filled : (o : Option Cells) (w : Word) (rest : Values → Result Values BadWord)
+    → go_on (option_map (λ (c : Cells). c.values) o) w rest ≡ goes_on (ok_or o (bad_word w)) rest
+filled None w rest = refl
+filled (Some cells) w rest = refl
 
-pub no_words : (n : ℕ) (letter : Letter) (line : List ℕ) (at : ℕ) (cells : Values) → n ≡ 0 → read_words n letter line at cells ≡ Ok cells
+one_word : (letter : Letter) (line : List ℕ) (cells : Values) (w : Word) (o : Option Cells) (bad : BadWord) (rest : Values → Result Values BadWord)
+    → 1 ≤ w.size → option_map (λ (c : Cells). c.values) o ≡ with_word letter cells (part line w.start w.size) → bad ≡ bad_word w
+    → read_word letter line w cells rest ≡ goes_on (ok_or o bad) rest
+one_word letter line cells w o bad rest s h b =
+    let z : w.size ≡ 0 → ⊥ = omega arith in
+    rw (ne_eqb w.size 0 z, ← h, b) (filled o w rest)
+
+-- a word is read, and then those behind it: n words are no fewer than the bytes left, nor is one less than those left behind the word
+pub one_more : (n : ℕ) (letter : Letter) (line : List ℕ) (at : ℕ) (cells : Values) (w : Word) (o : Option Cells) (bad : BadWord)
+    → w ≡ next_word line at → (1 ≤ w.size) × (w.start + w.size ≤ length line) → length line ≤ at + n
+    → option_map (λ (c : Cells). c.values) o ≡ with_word letter cells (part line w.start w.size) → bad ≡ bad_word w
+    → (m : ℕ) × (length line ≤ w.start + w.size + m)
+    × (read_words n letter line at cells ≡ goes_on (ok_or o bad) (λ filled. read_words m letter line (w.start + w.size) filled))
 unfolding read_words
-no_words n letter line at cells k = rw k refl
-
--- a word that spoils a line lies in it
-pub lies : (n : ℕ) (w : Word) (b : BadWord) → b ≡ bad_word w → (w.size ≡ 0 → ⊥) → w.start + w.size ≤ n → InLine n b
-lies n w b e z h =
-    let p : b.place ≡ w.start + 1 = ap (λ (x : BadWord). x.place) e in
-    let l : b.length ≡ w.size = ap (λ (x : BadWord). x.length) e in
-    record { from_1 = omega arith; some = omega (arith, z); inside = omega arith }
+one_more zero letter line at cells w o bad e i l h b = grind arith
+one_more (suc n) letter line at cells w o bad e i l h b = (
+  n,
+  grind arith,
+  ap (λ (v : Word). read_word letter line v cells (λ filled. read_words n letter line (v.start + v.size) filled)) (sym e)
+      ∙ one_word letter line cells w o bad _ i.0 h b,
+)

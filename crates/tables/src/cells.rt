@@ -1,5 +1,5 @@
 // The cells of a line, filled word by word.
-ghost use Rattle.std.specs.Prelude.{◌≡◌, ◌+◌, ◌≤◌, length, drop, None, slice_index_or};
+ghost use Rattle.std.specs.Prelude.{◌≡◌, None, slice_index_or};
 ghost use Rattle.std.specs.Option.{option_map};
 ghost use Rattle.tables.specs.Cells.{blank_cells, with_word};
 
@@ -25,33 +25,20 @@ impl Cells {
     pub(crate) fn at(self, place: usize) -> Option<Value>
         ensures { result ≡ slice_index_or self.values place None }
     {
-        if place < 12 { self.values[place] } else { None }
+        self.values.get(place).copied().flatten()
     }
 
     // A word fills the cell that it names, unless it is filled or the value cannot be read.
-    pub(crate) fn with_word(self, letter: Letter, word: &[u8]) -> Option<Cells>
+    pub(crate) fn with_word(mut self, letter: Letter, word: &[u8]) -> Option<Cells>
         ensures { option_map (λ c. c.values) result ≡ with_word letter self.values word.now }
     {
         let name = Run::Name.count(word);
         let column = column_of(letter, part_of(word, 0, name))?;
-        let None = self.at(column.place) else {
+        if self.at(column.place).is_some() {
             return None;
-        };
-        let value = read_value(column.kind, after(word, name))?;
-        let mut cells = self;
-        cells.values[column.place] = Some(value);
-        Some(cells)
-    }
-}
-
-// What stands behind the byte at a place.
-fn after(word: &[u8], place: usize) -> &[u8]
-    requires { place ≤ length word.now }
-    ensures { result.now ≡ drop (place + 1) word.now }
-{
-    if place < word.len() {
-        bytes_from(word, place + 1)
-    } else {
-        &[]
+        }
+        let value = read_value(column.kind, bytes_from(word, name + 1))?;
+        self.values[column.place] = Some(value);
+        Some(self)
     }
 }

@@ -1,8 +1,7 @@
 // The columns of each letter: the cells of its rows, by name.
-ghost use Rattle.std.specs.Prelude.{◌≡◌, ◌<◌, IfSome, Some};
+ghost use Rattle.std.specs.Prelude.{◌≡◌, ◌<◌, map, position, IfSome};
 ghost use Rattle.std.specs.Str.{bytes_eq};
-ghost use Rattle.tables.specs.Columns.{columns, column_named, column_of, letter_word};
-ghost use Rattle.sheets.specs.declared.letter.Letter.TheVariants.{Entry, Change, Cancel, MassCancel, Opening};
+ghost use Rattle.tables.specs.Columns.{columns, column_of, letter_word};
 
 use sheets::letter::Letter;
 
@@ -23,116 +22,61 @@ pub(crate) struct Column {
     pub(crate) kind: Kind,
 }
 
-impl Kind {
-    // The column of this kind at a place.
-    fn at(self, place: usize) -> Option<Column>
-        ensures { result ≡ Some (record { place = place; kind = self }) }
-    {
-        Some(Column { place, kind: self })
+const ENTRY: [(&[u8], Kind); 12] = [
+    (b"firm", Kind::Number),
+    (b"client", Kind::Number),
+    (b"side", Kind::Side),
+    (b"type", Kind::OneByte),
+    (b"validity", Kind::Validity),
+    (b"price", Kind::Price),
+    (b"trigger", Kind::Price),
+    (b"quantity", Kind::Number),
+    (b"disclosed", Kind::Number),
+    (b"minimum", Kind::Number),
+    (b"investor", Kind::Number),
+    (b"tag", Kind::Number),
+];
+
+const CHANGE: [(&[u8], Kind); 7] = [
+    (b"firm", Kind::Number),
+    (b"client", Kind::Number),
+    (b"number", Kind::Number),
+    (b"price", Kind::Price),
+    (b"quantity", Kind::Number),
+    (b"disclosed", Kind::Number),
+    (b"validity", Kind::Validity),
+];
+
+const CANCEL: [(&[u8], Kind); 2] = [(b"firm", Kind::Number), (b"number", Kind::Number)];
+
+const MASS_CANCEL: [(&[u8], Kind); 4] = [
+    (b"firm", Kind::Number),
+    (b"side", Kind::Side),
+    (b"tag", Kind::Number),
+    (b"investor", Kind::Number),
+];
+
+const OPENING: [(&[u8], Kind); 1] = [(b"day", Kind::Number)];
+
+// The cells of a letter's rows in their order: the name, and how the value is written.
+fn columns(letter: Letter) -> &'static [(&'static [u8], Kind)]
+    ensures { map (λ c. (c.0.now, c.1)) result.now ≡ columns letter }
+{
+    match letter {
+        Letter::Entry => &ENTRY,
+        Letter::Change => &CHANGE,
+        Letter::Cancel => &CANCEL,
+        Letter::MassCancel => &MASS_CANCEL,
+        Letter::Closing => &[],
+        Letter::Opening => &OPENING,
     }
 }
 
-pub(crate) fn same(name: &[u8], other: &[u8]) -> bool
-    ensures { result ≡ bytes_eq name.now other.now }
+// The place of a name among the columns.
+fn place_of(columns: &[(&[u8], Kind)], name: &[u8]) -> Option<usize>
+    ensures { result ≡ position (λ c. bytes_eq name.now c.0.now) columns.now }
 {
-    name == other
-}
-
-fn entry_place(name: &[u8]) -> Option<Column>
-    ensures told { result ≡ column_named 0 (columns Entry) name.now }
-    ensures within { IfSome result (λ c. c.place < 12) }
-{
-    if same(name, b"firm") {
-        Kind::Number.at(0)
-    } else if same(name, b"client") {
-        Kind::Number.at(1)
-    } else if same(name, b"side") {
-        Kind::Side.at(2)
-    } else if same(name, b"type") {
-        Kind::OneByte.at(3)
-    } else if same(name, b"validity") {
-        Kind::Validity.at(4)
-    } else if same(name, b"price") {
-        Kind::Price.at(5)
-    } else if same(name, b"trigger") {
-        Kind::Price.at(6)
-    } else if same(name, b"quantity") {
-        Kind::Number.at(7)
-    } else if same(name, b"disclosed") {
-        Kind::Number.at(8)
-    } else if same(name, b"minimum") {
-        Kind::Number.at(9)
-    } else if same(name, b"investor") {
-        Kind::Number.at(10)
-    } else if same(name, b"tag") {
-        Kind::Number.at(11)
-    } else {
-        None
-    }
-}
-
-fn change_place(name: &[u8]) -> Option<Column>
-    ensures told { result ≡ column_named 0 (columns Change) name.now }
-    ensures within { IfSome result (λ c. c.place < 12) }
-{
-    if same(name, b"firm") {
-        Kind::Number.at(0)
-    } else if same(name, b"client") {
-        Kind::Number.at(1)
-    } else if same(name, b"number") {
-        Kind::Number.at(2)
-    } else if same(name, b"price") {
-        Kind::Price.at(3)
-    } else if same(name, b"quantity") {
-        Kind::Number.at(4)
-    } else if same(name, b"disclosed") {
-        Kind::Number.at(5)
-    } else if same(name, b"validity") {
-        Kind::Validity.at(6)
-    } else {
-        None
-    }
-}
-
-fn cancel_place(name: &[u8]) -> Option<Column>
-    ensures told { result ≡ column_named 0 (columns Cancel) name.now }
-    ensures within { IfSome result (λ c. c.place < 12) }
-{
-    if same(name, b"firm") {
-        Kind::Number.at(0)
-    } else if same(name, b"number") {
-        Kind::Number.at(1)
-    } else {
-        None
-    }
-}
-
-fn mass_cancel_place(name: &[u8]) -> Option<Column>
-    ensures told { result ≡ column_named 0 (columns MassCancel) name.now }
-    ensures within { IfSome result (λ c. c.place < 12) }
-{
-    if same(name, b"firm") {
-        Kind::Number.at(0)
-    } else if same(name, b"side") {
-        Kind::Side.at(1)
-    } else if same(name, b"tag") {
-        Kind::Number.at(2)
-    } else if same(name, b"investor") {
-        Kind::Number.at(3)
-    } else {
-        None
-    }
-}
-
-fn opening_place(name: &[u8]) -> Option<Column>
-    ensures told { result ≡ column_named 0 (columns Opening) name.now }
-    ensures within { IfSome result (λ c. c.place < 12) }
-{
-    if same(name, b"day") {
-        Kind::Number.at(0)
-    } else {
-        None
-    }
+    columns.iter().position(|c| name == c.0)
 }
 
 // The column of a name.
@@ -140,14 +84,10 @@ pub(crate) fn column_of(letter: Letter, name: &[u8]) -> Option<Column>
     ensures told { result ≡ column_of letter name.now }
     ensures within { IfSome result (λ c. c.place < 12) }
 {
-    match letter {
-        Letter::Entry => entry_place(name),
-        Letter::Change => change_place(name),
-        Letter::Cancel => cancel_place(name),
-        Letter::MassCancel => mass_cancel_place(name),
-        Letter::Closing => None,
-        Letter::Opening => opening_place(name),
-    }
+    let columns = columns(letter);
+    let place = place_of(columns, name)?;
+    let kind = columns[place].1;
+    Some(Column { place, kind })
 }
 
 // The letter that a line begins with.

@@ -9,16 +9,13 @@ use orders::price::Price;
 use sheets::letter::Letter;
 
 impl Cells {
+    // One for each kind of value: a trait with an impl for u64, u8 and Price is longer than these three.
     fn number(self, place: usize) -> Option<u64>
         ensures { result ≡ number_in (slice_index_or self.values place None) }
     {
         match self.at(place) {
-            Some(value) => match value {
-                Value::Number(n) => Some(n),
-                Value::Byte(_) => None,
-                Value::Price(_) => None,
-            },
-            None => None,
+            Some(Value::Number(n)) => Some(n),
+            _ => None,
         }
     }
 
@@ -26,12 +23,8 @@ impl Cells {
         ensures { result ≡ byte_in (slice_index_or self.values place None) }
     {
         match self.at(place) {
-            Some(value) => match value {
-                Value::Number(_) => None,
-                Value::Byte(b) => Some(b),
-                Value::Price(_) => None,
-            },
-            None => None,
+            Some(Value::Byte(b)) => Some(b),
+            _ => None,
         }
     }
 
@@ -39,12 +32,8 @@ impl Cells {
         ensures { result ≡ price_in (slice_index_or self.values place None) }
     {
         match self.at(place) {
-            Some(value) => match value {
-                Value::Number(_) => None,
-                Value::Byte(_) => None,
-                Value::Price(p) => Some(p),
-            },
-            None => None,
+            Some(Value::Price(p)) => Some(p),
+            _ => None,
         }
     }
 

@@ -11,7 +11,7 @@ use crate::words::{BadWord, next_word};
 use forms::form::Form;
 use sheets::letter::Letter;
 
-// Fills cells by the words from a place on. A line has no more words than bytes.
+// Fills cells by the words from a place on.
 fn read_words(letter: Letter, line: &[u8], from: usize) -> Result<Cells, BadWord>
     requires { from ≤ length line.now }
     ensures told { MatchResult result (λ c. read_words (length line.now) letter line.now from blank_cells ≡ Ok c.values) (λ e. read_words (length line.now) letter line.now from blank_cells ≡ Err e) }
@@ -19,15 +19,10 @@ fn read_words(letter: Letter, line: &[u8], from: usize) -> Result<Cells, BadWord
 {
     let mut cells = Cells::blank();
     let mut at = from;
-    for turn in 0..line.len() {
-        let word = next_word(line, at);
-        if word.size == 0 {
-            return Ok(cells);
-        }
-        match cells.with_word(letter, word.bytes(line)) {
-            Some(filled) => cells = filled,
-            None => return Err(word.spoils()),
-        }
+    while let Some(word) = next_word(line, at) {
+        cells = cells
+            .with_word(letter, word.bytes(line))
+            .ok_or(word.spoils())?;
         at = word.start + word.size;
     }
     Ok(cells)
@@ -38,20 +33,16 @@ pub fn read_line(line: &[u8]) -> Result<Option<Form>, BadWord>
     ensures told { result ≡ read_line line.now }
     ensures within { IfErr result (InLine (length line.now)) }
 {
-    let first = next_word(line, 0);
-    if first.size == 0 {
+    let Some(first) = next_word(line, 0) else {
         return Ok(None);
-    }
-    let Some(letter) = letter_word(first.bytes(line)) else {
-        return Err(first.spoils());
     };
-    match read_words(letter, line, first.start + first.size) {
-        Ok(cells) => Ok(Some(cells.form(letter))),
-        Err(bad) => Err(bad),
-    }
+    let letter = letter_word(first.bytes(line)).ok_or(first.spoils())?;
+    let cells = read_words(letter, line, first.start + first.size)?;
+    Ok(Some(cells.form(letter)))
 }
 
 // The worked lines are read as they say.
+#[tactic(auto, unfolding(crate::specs::Lines::read_words))]
 pub fn worked() -> bool
     ensures { Worked }
 {

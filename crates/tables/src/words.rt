@@ -1,5 +1,5 @@
 // The words of a line: runs of bytes with spaces between, up to a comment.
-ghost use Rattle.std.specs.Prelude.{◌≡◌, ◌+◌, ◌<◌, ◌≤◌, length};
+ghost use Rattle.std.specs.Prelude.{◌≡◌, ◌+◌, ◌<◌, ◌≤◌, length, IfSome, MatchOption};
 ghost use Rattle.std.specs.List.{prefix_len};
 ghost use Rattle.sheets.specs.Layout.{part};
 ghost use Rattle.tables.specs.Words.{takes, next_word, bad_word};
@@ -14,7 +14,7 @@ pub(crate) enum Run {
     Name,
 }
 
-// Where a word lies in its line; one of no bytes is none.
+// Where a word lies in its line.
 #[derive(Clone, Copy)]
 pub(crate) struct Word {
     pub(crate) start: usize,
@@ -44,24 +44,19 @@ impl Run {
         ensures told { result ≡ prefix_len (takes self) bytes.now }
         ensures within { result ≤ length bytes.now }
     {
-        for (i, b) in bytes.iter().enumerate() {
-            if !self.takes(*b) {
-                return i;
-            }
-        }
-        bytes.len()
+        bytes.iter().take_while(|b| self.takes(**b)).count()
     }
 }
 
-// The word that comes next from a place of the line.
-pub(crate) fn next_word(line: &[u8], at: usize) -> Word
+// The word that comes next from a place of the line; none at its end and at a comment.
+pub(crate) fn next_word(line: &[u8], at: usize) -> Option<Word>
     requires { at ≤ length line.now }
-    ensures told { result ≡ next_word line.now at }
-    ensures within { result.start + result.size ≤ length line.now }
+    ensures told { MatchOption result ((next_word line.now at).size ≡ 0) (λ w. w ≡ next_word line.now at) }
+    ensures within { IfSome result (λ w. (1 ≤ w.size) × (w.start + w.size ≤ length line.now)) }
 {
     let start = at + Run::Spaces.count(bytes_from(line, at));
     let size = Run::Word.count(bytes_from(line, start));
-    Word { start, size }
+    (size > 0).then_some(Word { start, size })
 }
 
 impl Word {
@@ -71,9 +66,9 @@ impl Word {
         part_of(line, self.start, self.size)
     }
 
-    // What is said of a word that spoils its line.
+    // What is said of a word that spoils its line. Not a `From`, which could not ask that the place fits.
     pub(crate) fn spoils(self) -> BadWord
-        requires { self.start < 18446744073709551615 }
+        requires { self.start < usize.MAX }
         ensures { result ≡ bad_word self }
     {
         BadWord {
