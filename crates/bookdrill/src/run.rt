@@ -1,7 +1,7 @@
 // One book, run through the steps: what each call told, and the queues at the end, as text.
 use crate::steps::{BIDS, BUYS, OFFERS, SELLS, STEPS, Step};
 use books::book::Book;
-use books::queue::{Put, Queue, Record};
+use books::queue::{PutError, Queue, Record};
 use orders::order::{Order, Stop};
 use orders::price::Price;
 use orders::row::{OrderRow, StopRow};
@@ -28,15 +28,14 @@ pub fn row(number: u32, side: Side, hundredths: u32) -> OrderRow {
 }
 
 fn order(number: u32, side: Side, hundredths: u32) -> Record {
-    Record::Standing(row(number, side, hundredths).read())
+    Record::Standing(Order::from(row(number, side, hundredths)))
 }
 
 fn stop(number: u32, side: Side, hundredths: u32) -> Record {
-    Record::Waiting(StopRow {
+    Record::Waiting(Stop::from(StopRow {
         order: row(number, side, hundredths),
         trigger: Price { hundredths },
-    }
-    .read())
+    }))
 }
 
 // The record with a lot less, under its turn or another.
@@ -60,9 +59,9 @@ fn fewer(o: Order, requeue: bool) -> Order {
 
 fn put<B: Book>(book: &mut B, record: Record) -> &'static str {
     match book.put(record) {
-        Put::Done => "done",
-        Put::Full => "full",
-        Put::Twice => "twice",
+        Ok(()) => "done",
+        Err(PutError::Full) => "full",
+        Err(PutError::Twice) => "twice",
     }
 }
 

@@ -20,7 +20,7 @@ use tapes::tape::Tape;
 use venue::day::Day;
 
 // One byte more than a sheet may have.
-const INPUT_BYTES: usize = 65_536;
+const INPUT_BYTES: u64 = 65_536;
 
 const TAPE_LINES: usize = 3000;
 
@@ -30,33 +30,15 @@ fn main(rt: HostRuntime) -> anyhow::Result<()> {
     run(&rt)
 }
 
-// Fills the buffer from standard input, as far as it goes.
-fn read_input(rt: &HostRuntime, buffer: &mut [u8]) -> anyhow::Result<usize> {
-    let mut input = rt.stdin();
-    let mut used = 0;
-    for _ in 0..INPUT_BYTES {
-        if used >= buffer.len() {
-            return Ok(used);
-        }
-        let got = input.read(&mut buffer[used..])?;
-        if got == 0 {
-            return Ok(used);
-        }
-        used += got;
-    }
-    Ok(used)
-}
-
 fn run(rt: &HostRuntime) -> anyhow::Result<()> {
     let heap = rt.alloc();
-    let mut buffer = vec![in heap; 0u8; INPUT_BYTES]?;
-    let used = read_input(rt, buffer.as_mut_slice())?;
+    let mut input = Vec::new(heap);
+    rt.stdin().take(INPUT_BYTES).read_to_end(&mut input)?;
     let mut tape = Tape::new(heap, TAPE_LINES)?;
     let mut replies = Replies::new(heap, REPLY_ROOM)?;
     let mut book = FrontCard::over(slot_book());
     let day = set_up(&mut book, &mut tape, 1, 1);
-    let bytes = buffer.as_slice();
-    match admit(&bytes[0..used.min(bytes.len())], &replies) {
+    match admit(input.as_slice(), &replies) {
         Ok(sheet) => work_rows(rt, sheet, day, &mut book, &mut tape, &mut replies),
         Err(refusal) => {
             day.end();

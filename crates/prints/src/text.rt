@@ -33,13 +33,15 @@ impl fmt::Display for LineText {
     ghost output = { λ x. Some (fields_text (fields x.0)) };
 
     fn fmt<W: fmt::Write>(&self, f: &mut fmt::Formatter<W>) -> fmt::Result {
-        let fields = Fields::of_line(self.0);
-        let kind = fields.kind;
-        let number = fields.number;
-        let other = fields.other;
-        let price = PriceText(fields.price);
-        let lots = fields.lots;
-        let cause = fields.cause;
+        let Fields {
+            kind,
+            number,
+            other,
+            price,
+            lots,
+            cause,
+        } = Fields::from(self.0);
+        let price = PriceText(price);
         write!(f, "{kind} {number} {other} {price} {lots} {cause}")
     }
 }
@@ -69,9 +71,26 @@ impl Fields {
         }
     }
 
-    fn of_line(line: Line) -> Fields
-        ensures { result ≡ fields line }
+    fn with_other(self, other: u32) -> Fields
+        ensures { result ≡ with_other self other }
     {
+        Fields { other, ..self }
+    }
+
+    fn with_cause(self, cause: Cause) -> Fields
+        ensures { result ≡ with_cause self cause }
+    {
+        Fields {
+            cause: cause.number(),
+            ..self
+        }
+    }
+}
+
+impl From<Line> for Fields {
+    ghost from_gives = { λ line r. r ≡ fields line };
+
+    fn from(line: Line) -> Fields {
         match line {
             Line::Entered {
                 number,
@@ -102,31 +121,13 @@ impl Fields {
             } => Fields::of_one('C', number, price_of(limit), lots).with_cause(cause),
         }
     }
-
-    fn with_other(self, other: u32) -> Fields
-        ensures { result ≡ with_other self other }
-    {
-        Fields { other, ..self }
-    }
-
-    fn with_cause(self, cause: Cause) -> Fields
-        ensures { result ≡ with_cause self cause }
-    {
-        Fields {
-            cause: cause.number(),
-            ..self
-        }
-    }
 }
 
 // An absent limit prints as 0,00.
 fn price_of(limit: Option<Price>) -> Price
     ensures { result ≡ price_of limit }
 {
-    match limit {
-        Some(price) => price,
-        None => Price { hundredths: 0 },
-    }
+    limit.unwrap_or(Price { hundredths: 0 })
 }
 
 // What a row is answered: number, cell, place.
@@ -137,9 +138,12 @@ impl fmt::Display for AnswerText {
     ghost output = { λ x. Some (answer_text x.0) };
 
     fn fmt<W: fmt::Write>(&self, f: &mut fmt::Formatter<W>) -> fmt::Result {
-        let number = self.0.number;
-        let cell = self.0.cell;
-        let place = self.0.place;
+        let Reply {
+            number,
+            cell,
+            place,
+            ..
+        } = self.0;
         write!(f, "{number} {cell} {place}")
     }
 }

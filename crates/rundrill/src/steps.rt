@@ -1,74 +1,73 @@
 // Forty mixed steps, accepted and refused.
 use forms::form::{CancelForm, ChangeForm, EntryForm, Form, MassCancelForm, OpeningForm};
 use orders::price::Price;
-
-const BUY: u64 = 1;
-
-const SELL: u64 = 2;
+use orders::side::{Side, Validity};
 
 // What an entry may say besides side, quantity and price.
+#[derive(Clone, Copy)]
 struct Terms {
     disclosed: u64,
     investor: u64,
-    validity: u64,
+    validity: Validity,
     minimum: u64,
-    tag: u64,
 }
 
-fn with(firm: u64, client: u64, side: u64, quantity: u64, hundredths: u32, terms: Terms) -> Form {
-    let Terms {
-        disclosed,
-        investor,
-        validity,
-        minimum,
-        tag,
-    } = terms;
+const PLAIN: Terms = Terms {
+    disclosed: 0,
+    investor: 0,
+    validity: Validity::Day,
+    minimum: 0,
+};
+
+// The number of a side in its cell.
+fn side_cell(side: Side) -> u64 {
+    match side {
+        Side::Buy => 1,
+        Side::Sell => 2,
+    }
+}
+
+// The number of a validity in its cell.
+fn validity_cell(validity: Validity) -> u64 {
+    match validity {
+        Validity::Day => 0,
+        Validity::Gtc => 1,
+        Validity::Ioc => 3,
+        Validity::Fok => 4,
+    }
+}
+
+fn with(firm: u64, client: u64, side: Side, quantity: u64, hundredths: u32, terms: Terms) -> Form {
     Form::Entry(EntryForm {
         firm: Some(firm),
         client: Some(client),
-        side: Some(side),
+        side: Some(side_cell(side)),
         kind: Some(b'2'),
-        validity: Some(validity),
+        validity: Some(validity_cell(terms.validity)),
         price: Some(Price { hundredths }),
         trigger: None,
         quantity: Some(quantity),
-        disclosed: Some(disclosed),
-        minimum: Some(minimum),
-        investor: Some(investor),
-        tag: Some(tag),
+        disclosed: Some(terms.disclosed),
+        minimum: Some(terms.minimum),
+        investor: Some(terms.investor),
+        tag: Some(0),
     })
 }
 
-fn plain(firm: u64, client: u64, side: u64, quantity: u64, hundredths: u32) -> Form {
-    let terms = Terms {
-        disclosed: 0,
-        investor: 0,
-        validity: 0,
-        minimum: 0,
-        tag: 0,
-    };
-    with(firm, client, side, quantity, hundredths, terms)
+fn plain(firm: u64, client: u64, side: Side, quantity: u64, hundredths: u32) -> Form {
+    with(firm, client, side, quantity, hundredths, PLAIN)
 }
 
-// An entry of another type than a limit order.
-fn typed(
-    firm: u64,
-    client: u64,
-    side: u64,
-    quantity: u64,
-    kind: u8,
-    price: Option<Price>,
-    trigger: Option<Price>,
-    validity: u64,
-) -> Form {
+// A market order, whose leftover is a limit order.
+fn market(firm: u64, client: u64, side: Side, quantity: u64) -> Form {
     Form::Entry(EntryForm {
         firm: Some(firm),
         client: Some(client),
-        side: Some(side),
-        kind: Some(kind),
-        validity: Some(validity),
-        price,
-        trigger,
+        side: Some(side_cell(side)),
+        kind: Some(b'K'),
+        validity: Some(validity_cell(Validity::Day)),
+        price: None,
+        trigger: None,
         quantity: Some(quantity),
         disclosed: None,
         minimum: None,
@@ -77,26 +76,24 @@ fn typed(
     })
 }
 
-fn market(firm: u64, client: u64, side: u64, quantity: u64) -> Form {
-    typed(firm, client, side, quantity, b'K', None, None, 0)
-}
-
 // A stop that lasts until it is cancelled.
-fn stop(firm: u64, client: u64, side: u64, quantity: u64, trigger: u32, hundredths: u32) -> Form {
-    let limit = Price { hundredths };
-    let trigger = Price {
-        hundredths: trigger,
-    };
-    typed(
-        firm,
-        client,
-        side,
-        quantity,
-        b'4',
-        Some(limit),
-        Some(trigger),
-        1,
-    )
+fn stop(firm: u64, client: u64, side: Side, quantity: u64, trigger: u32, hundredths: u32) -> Form {
+    Form::Entry(EntryForm {
+        firm: Some(firm),
+        client: Some(client),
+        side: Some(side_cell(side)),
+        kind: Some(b'4'),
+        validity: Some(validity_cell(Validity::Gtc)),
+        price: Some(Price { hundredths }),
+        trigger: Some(Price {
+            hundredths: trigger,
+        }),
+        quantity: Some(quantity),
+        disclosed: None,
+        minimum: None,
+        investor: None,
+        tag: None,
+    })
 }
 
 fn change(
@@ -107,15 +104,11 @@ fn change(
     quantity: Option<u64>,
     disclosed: Option<u64>,
 ) -> Form {
-    let price = match price {
-        Some(hundredths) => Some(Price { hundredths }),
-        None => None,
-    };
     Form::Change(ChangeForm {
         firm: Some(firm),
         client: Some(client),
         number: Some(number),
-        price,
+        price: price.map(|hundredths| Price { hundredths }),
         quantity,
         disclosed,
         validity: None,
@@ -129,10 +122,10 @@ fn cancel(firm: u64, number: u64) -> Form {
     })
 }
 
-fn mass_cancel(firm: u64, side: Option<u64>) -> Form {
+fn mass_cancel(firm: u64, side: Option<Side>) -> Form {
     Form::MassCancel(MassCancelForm {
         firm: Some(firm),
-        side,
+        side: side.map(side_cell),
         tag: None,
         investor: None,
     })
@@ -144,84 +137,73 @@ fn opening(day: u64) -> Form {
 
 pub fn first_half() -> [Form; 20] {
     [
-        plain(1, 1, BUY, 200, 2000),
-        plain(2, 1, SELL, 100, 2000),
+        plain(1, 1, Side::Buy, 200, 2000),
+        plain(2, 1, Side::Sell, 100, 2000),
         change(1, 1, 1, Some(2100), Some(300), None),
-        plain(2, 1, SELL, 100, 2100),
+        plain(2, 1, Side::Sell, 100, 2100),
         cancel(1, 1),
         with(
             3,
             1,
-            SELL,
+            Side::Sell,
             300,
             1000,
             Terms {
                 disclosed: 100,
-                investor: 0,
-                validity: 0,
-                minimum: 0,
-                tag: 0,
+                ..PLAIN
             },
         ),
-        plain(4, 1, SELL, 100, 1000),
-        plain(5, 1, BUY, 250, 1000),
+        plain(4, 1, Side::Sell, 100, 1000),
+        plain(5, 1, Side::Buy, 250, 1000),
         with(
             4,
             2,
-            SELL,
+            Side::Sell,
             50,
             1000,
             Terms {
-                disclosed: 0,
                 investor: 7,
-                validity: 0,
-                minimum: 0,
-                tag: 0,
+                ..PLAIN
             },
         ),
         with(
             6,
             1,
-            BUY,
+            Side::Buy,
             200,
             1000,
             Terms {
-                disclosed: 0,
                 investor: 7,
-                validity: 4,
-                minimum: 0,
-                tag: 0,
+                validity: Validity::Fok,
+                ..PLAIN
             },
         ),
         with(
             6,
             1,
-            BUY,
+            Side::Buy,
             200,
             1000,
             Terms {
-                disclosed: 0,
                 investor: 7,
-                validity: 0,
-                minimum: 0,
-                tag: 0,
+                ..PLAIN
             },
         ),
-        stop(7, 1, BUY, 200, 2520, 2530),
-        stop(7, 2, SELL, 80, 990, 980),
-        plain(2, 5, SELL, 100, 2520),
-        plain(2, 6, SELL, 100, 2530),
-        plain(8, 1, BUY, 150, 1200),
-        plain(8, 2, BUY, 40, 2520),
-        market(9, 1, SELL, 120),
-        market(9, 2, BUY, 30),
-        plain(8, 2, BUY, 10, 900),
+        stop(7, 1, Side::Buy, 200, 2520, 2530),
+        stop(7, 2, Side::Sell, 80, 990, 980),
+        plain(2, 5, Side::Sell, 100, 2520),
+        plain(2, 6, Side::Sell, 100, 2530),
+        plain(8, 1, Side::Buy, 150, 1200),
+        plain(8, 2, Side::Buy, 40, 2520),
+        market(9, 1, Side::Sell, 120),
+        market(9, 2, Side::Buy, 30),
+        plain(8, 2, Side::Buy, 10, 900),
     ]
 }
 
 pub fn second_half() -> [Form; 20] {
     [
-        plain(8, 2, BUY, 10, 900),
+        plain(8, 2, Side::Buy, 10, 900),
         change(8, 3, 22, None, Some(5), None),
         change(8, 3, 22, None, None, Some(2)),
         change(7, 9, 14, Some(2600), None, None),
@@ -229,56 +211,48 @@ pub fn second_half() -> [Form; 20] {
         with(
             9,
             7,
-            SELL,
+            Side::Sell,
             60,
             900,
             Terms {
-                disclosed: 0,
-                investor: 0,
-                validity: 3,
+                validity: Validity::Ioc,
                 minimum: 20,
-                tag: 0,
+                ..PLAIN
             },
         ),
         with(
             9,
             8,
-            SELL,
+            Side::Sell,
             60,
             890,
             Terms {
-                disclosed: 0,
-                investor: 0,
-                validity: 3,
-                minimum: 0,
-                tag: 0,
+                validity: Validity::Ioc,
+                ..PLAIN
             },
         ),
-        stop(1, 4, SELL, 25, 880, 870),
-        plain(1, 5, BUY, 10, 880),
-        plain(2, 9, SELL, 5, 880),
-        mass_cancel(8, Some(1)),
+        stop(1, 4, Side::Sell, 25, 880, 870),
+        plain(1, 5, Side::Buy, 10, 880),
+        plain(2, 9, Side::Sell, 5, 880),
+        mass_cancel(8, Some(Side::Buy)),
         Form::Closing,
-        plain(1, 9, BUY, 1, 100),
+        plain(1, 9, Side::Buy, 1, 100),
         opening(1),
         opening(2),
         with(
             1,
             9,
-            BUY,
+            Side::Buy,
             1600,
             100,
             Terms {
                 disclosed: 100,
-                investor: 0,
-                validity: 0,
-                minimum: 0,
-                tag: 0,
+                ..PLAIN
             },
         ),
-        plain(2, 9, SELL, 1650, 100),
+        plain(2, 9, Side::Sell, 1650, 100),
         mass_cancel(7, None),
-        plain(3, 5, BUY, 7, 95),
+        plain(3, 5, Side::Buy, 7, 95),
         Form::Closing,
     ]
 }

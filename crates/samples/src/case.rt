@@ -66,9 +66,6 @@ impl<'a> Case<'a> {
 
     // The line expected at a place.
     pub fn expected_at(&self, i: usize) -> &'a str {
-        match self.expected.get(i) {
-            Some(text) => *text,
-            None => "nothing",
-        }
+        self.expected.get(i).copied().unwrap_or("nothing")
     }
 }

@@ -39,18 +39,10 @@ pub fn report(rt: &HostRuntime, case: &Case, tally: &mut Tally) -> anyhow::Resul
 
 // The first place where what was expected and what came differ.
 fn first_difference(case: &Case, got: &[String]) -> Option<usize> {
-    for i in 0..case.expected.len().max(got.len()) {
-        if case.expected_at(i) != got_at(got, i) {
-            return Some(i);
-        }
-    }
-    None
+    (0..case.expected.len().max(got.len())).find(|i| case.expected_at(*i) != got_at(got, *i))
 }
 
 // What came at a place.
 fn got_at(got: &[String], i: usize) -> &str {
-    match got.get(i) {
-        Some(text) => text.as_str(),
-        None => "nothing",
-    }
+    got.get(i).map_or("nothing", |text| text.as_str())
 }

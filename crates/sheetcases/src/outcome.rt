@@ -1,6 +1,5 @@
 // What comes of a sheet that is read whole.
 use forms::form::{EntryForm, Form};
-use forms::refusal::Refusal;
 use orders::price::Price;
 use sheets::replies::Replies;
 use sheets::reply::Reply;
@@ -8,31 +7,23 @@ use sheets::row::read_form;
 use sheets::sheet::{Drawn, Sheet};
 use std::alloc::{AllocError, Global};
 
-// The replies, and the values in the accepted rows' cells; a refused sheet has its one answer for a reply.
-#[derive(Drop)]
-pub struct Outcome {
-    pub refused: bool,
-    pub replies: Vec<Reply>,
-    pub values: Vec<Option<u64>>,
+// A refused sheet has its one answer; any other has its replies, and the values in the accepted rows' cells.
+#[derive(Drop, PartialEq)]
+pub enum Outcome {
+    Refused(Reply),
+    Worked {
+        replies: Vec<Reply>,
+        values: Vec<Option<u64>>,
+    },
 }
 
 impl Outcome {
     pub fn of(heap: Global, bytes: &[u8]) -> Result<Outcome, AllocError> {
         match Sheet::read(bytes) {
             Ok(sheet) => read_rows(heap, sheet),
-            Err(refusal) => refused(heap, refusal),
+            Err(refusal) => Ok(Outcome::Refused(Reply::to_sheet(refusal))),
         }
     }
-}
-
-fn refused(heap: Global, refusal: Refusal) -> Result<Outcome, AllocError> {
-    let mut replies = Vec::new(heap);
-    replies.push(Reply::to_sheet(refusal))?;
-    Ok(Outcome {
-        refused: true,
-        replies,
-        values: Vec::new(heap),
-    })
 }
 
 fn read_rows(heap: Global, mut sheet: Sheet) -> Result<Outcome, AllocError> {
@@ -48,8 +39,7 @@ fn read_rows(heap: Global, mut sheet: Sheet) -> Result<Outcome, AllocError> {
             Err(refusal) => slip.post(&mut posted, Err(refusal)),
         }
     }
-    Ok(Outcome {
-        refused: false,
+    Ok(Outcome::Worked {
         replies: posted.all().to_vec(heap)?,
         values,
     })
@@ -80,7 +70,7 @@ fn push_entry(values: &mut Vec<Option<u64>>, e: EntryForm) -> Result<(), AllocEr
         e.firm,
         e.client,
         e.side,
-        byte(e.kind),
+        e.kind.map(u64::from),
         e.validity,
         hundredths(e.price),
         hundredths(e.trigger),
@@ -88,16 +78,6 @@ fn push_entry(values: &mut Vec<Option<u64>>, e: EntryForm) -> Result<(), AllocEr
     values.extend_from_slice(&[e.quantity, e.disclosed, e.minimum, e.investor, e.tag])
 }
 
-fn byte(kind: Option<u8>) -> Option<u64> {
-    match kind {
-        Some(b) => Some(u64::from(b)),
-        None => None,
-    }
-}
-
 fn hundredths(price: Option<Price>) -> Option<u64> {
-    match price {
-        Some(p) => Some(u64::from(p.hundredths)),
-        None => None,
-    }
+    price.map(|p| u64::from(p.hundredths))
 }

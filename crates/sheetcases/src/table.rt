@@ -1,5 +1,6 @@
 // A line of the table: a name, the sheet's bytes, its replies, and the values in its accepted rows' cells.
-use anyhow::anyhow;
+use crate::outcome::Outcome;
+use anyhow::{Context, bail};
 use sheets::reply::Reply;
 use std::alloc::Global;
 
@@ -7,9 +8,7 @@ use std::alloc::Global;
 pub struct Case<'a> {
     pub name: &'a str,
     pub sheet: Vec<u8>,
-    pub refused: bool,
-    pub replies: Vec<Reply>,
-    pub values: Vec<Option<u64>>,
+    pub expected: Outcome,
 }
 
 impl<'a> Case<'a> {
@@ -20,19 +19,29 @@ impl<'a> Case<'a> {
         Ok(Case {
             name,
             sheet: read_bytes(heap, sheet)?,
-            refused: replies.contains("sheet"),
-            replies: read_replies(heap, replies)?,
-            values: read_values(heap, values)?,
+            expected: read_outcome(heap, replies, values)?,
         })
     }
 }
 
 // The text before the next bar, and what follows it.
 fn column<'a>(line: &'a str) -> anyhow::Result<(&'a str, &'a str)> {
-    match line.split_once('|') {
-        Some((first, rest)) => Ok((first, rest)),
-        None => Err(anyhow!("a column is missing")),
+    line.split_once('|').context("a column is missing")
+}
+
+// The replies' column begins with `sheet` where the sheet is refused, and then has its one answer.
+fn read_outcome(heap: Global, replies: &str, values: &str) -> anyhow::Result<Outcome> {
+    let listed = read_replies(heap, replies)?;
+    if replies.contains("sheet") {
+        let [reply] = listed.as_slice() else {
+            bail!("a refused sheet has one answer");
+        };
+        return Ok(Outcome::Refused(*reply));
     }
+    Ok(Outcome::Worked {
+        replies: listed,
+        values: read_values(heap, values)?,
+    })
 }
 
 // Words as `7`, a byte, `w7`, two bytes, `'text`, its bytes, and `9*w7,0`, nine times those words.
@@ -93,12 +102,8 @@ fn push_replies(replies: &mut Vec<Reply>, rows: &str, answer: &str) -> anyhow::R
 }
 
 fn read_reply(row: u16, answer: &str) -> anyhow::Result<Reply> {
-    let Some((number, rest)) = answer.split_once('.') else {
-        return Err(anyhow!("a reply has four fields"));
-    };
-    let Some((cell, place)) = rest.split_once('.') else {
-        return Err(anyhow!("a reply has four fields"));
-    };
+    let (number, rest) = answer.split_once('.').context("a reply has four fields")?;
+    let (cell, place) = rest.split_once('.').context("a reply has four fields")?;
     Ok(Reply {
         row,
         number: number.parse::<u8>()?,
