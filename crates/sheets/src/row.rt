@@ -120,9 +120,7 @@ fn check_cells(letter: Letter, count: u8, rest: &[u8], row: &[u8]) -> Result<(),
 fn read_lettered(byte: u8, count: u8, rest: &[u8], row: &[u8]) -> Result<Form, Refusal>
     ensures told { result ≡ read_lettered (letter_of byte) count rest.now row.now }
 {
-    let Some(letter) = Letter::of(byte) else {
-        return Err(Refusal::UnknownRow);
-    };
+    let letter = Letter::try_from(byte)?;
     check_cells(letter, count, rest, row)?;
     read_cells(letter, row)
 }
