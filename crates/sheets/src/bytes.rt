@@ -1,5 +1,5 @@
 // Looks into bytes: a byte past the end reads 0, and a part that would lie outside is cut.
-ghost use Rattle.std.specs.Prelude.{◌≡◌, ◌+◌, ◌-◌, ◌*◌, length, drop, slice_index};
+ghost use Rattle.std.specs.Prelude.{◌≡◌, drop, slice_index};
 ghost use Rattle.sheets.specs.Layout.{word, part};
 
 pub(crate) fn byte_at(bytes: &[u8], i: usize) -> u8

@@ -1,8 +1,9 @@
 // What a single cell says. A refused cell gives the place, from 1, of the first byte that cannot stand there.
-ghost use Rattle.std.specs.Prelude.{◌≡◌, ◌+◌, ◌*◌, ◌^◌, ◌<◌, ◌≤◌, length, take};
+// That place is all there is to say, and is a byte of the published reply: an error type around it would be no plainer.
+ghost use Rattle.std.specs.Prelude.{◌≡◌, ◌≤◌, length, take};
 ghost use Rattle.std.specs.Str.Parse.{AllDigits, digits_value};
 ghost use Rattle.std.specs.List.{prefix_len};
-ghost use Rattle.sheets.specs.Cells.{is_digit, digits, written, read_number, read_cents, read_price, read_type};
+ghost use Rattle.sheets.specs.Cells.{is_digit, digits, read_number, read_price, read_type};
 
 use super::bytes::{byte_at, bytes_from, part_of};
 use orders::price::Price;
