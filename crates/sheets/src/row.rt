@@ -1,7 +1,7 @@
 // A row taken apart: its letter, its cell count and its cells, read from the left.
 ghost use Rattle.std.specs.Prelude.{◌≡◌, ◌<◌};
-ghost use Rattle.sheets.specs.Rows.{in_cell, check_cells, read_cells, read_lettered, read_form};
 ghost use Rattle.std.specs.Fn.{FnOnceReturnsAt};
+ghost use Rattle.sheets.specs.Rows.{in_cell, check_cells, read_cells, read_lettered, read_form};
 ghost use Rattle.sheets.specs.Layout.{part_at};
 ghost use Rattle.sheets.specs.declared.directory.Directory.TheVariants.{Cells};
 ghost use Rattle.sheets.specs.Alone.{RowAlone, CellAlone};

@@ -1,5 +1,4 @@
-use Rattle.std.proofs.Common.{◌≡◌, ◌+◌, ◌*◌, take, ap, ◌∙◌, arith}
-use Rattle.std.proofs.lemmas.List.{take_all}
+use Rattle.std.proofs.Common.{◌≡◌, ◌+◌, ◌*◌, take, arith}
 use Rattle.std.proofs.lemmas.Str.Parse.{digit_at, digits_value-take-le}
 use Rattle.std.specs.Str.Parse.{digits_value}
 use Rattle.sheets.proofs.Digits.{short, value_step}
@@ -25,8 +24,3 @@ overflow_add-number c =
 
 pub loop-b-preserved : goal.loop-b-preserved
 loop-b-preserved c = next c
-
-pub returns : goal.returns
-returns c = record {
-  told = c.loop-b.invariant ∙ ap (digits_value 10) (take_all c.loop-b.b-index c.args.digits.now (omega arith));
-}
