@@ -1,33 +1,31 @@
--- One digit more of a number.
-use Rattle.std.proofs.Common.{◌≡◌, ℕ, ◌+◌, ◌-◌, ◌*◌, ◌^◌, ◌<◌, ◌≤◌, true, List, length, get_or, take, ap, ◌∙◌, pow-suc, add-one, arith, lit<}
-use native.Mathlib.Nat.{pow-le-pow_right}
+-- Digits, and the number that they write.
+use Rattle.std.proofs.Common.{◌≡◌, ℕ, ◌+◌, ◌*◌, ◌-◌, ◌^◌, ◌<◌, ◌≤◌, Bool, true, false, cond, List, [], ◌∷◌, length, get_or, take, ap, ◌∙◌, refl, one-add, arith}
 use Rattle.std.proofs.lemmas.Int.Digits.{digits_value_more}
-use Rattle.std.proofs.lemmas.List.{length-take}
 use Rattle.std.proofs.lemmas.Str.{digit_value_digit}
+use Rattle.std.proofs.lemmas.Str.Parse.{digit_at, digits_value_short, numerals_by_value, tells_digits}
 use Rattle.std.proofs.lemmas.Bool.Decides.{nat_tests}
-use Rattle.std.specs.Str.Parse.{digits_value}
 use Rattle.std.specs.Char.{digit_value}
+use Rattle.std.specs.List.{prefix_len}
+use Rattle.std.specs.Str.Parse.{AllDigits, digits_value}
 use Rattle.sheets.specs.Cells.{is_digit}
 
--- what a test for a digit tells
-pub digit_bounds : (b : ℕ) → is_digit b ≡ true → (48 ≤ b) × (b ≤ 57)
-digit_bounds b e = (grind (arith, nat_tests), grind (arith, nat_tests))
+-- what stands at the front is digits
+pub front_digits : (xs : List ℕ) → AllDigits 10 (take (prefix_len is_digit xs) xs)
+front_digits [] = tt
+front_digits (x ∷ xs) = first (is_digit x) refl (front_digits xs)
+  where
+    first : (t : Bool) → is_digit x ≡ t → AllDigits 10 (take (prefix_len is_digit xs) xs)
+        → AllDigits 10 (take (cond t (1 + prefix_len is_digit xs) 0) (x ∷ xs))
+    first true e more = rw one-add (grind (arith, nat_tests), more)
+    first false e more = tt
 
--- a byte that is a digit
-pub value_step : (bs : List ℕ) (i : ℕ) → i < length bs → is_digit (get_or bs i 0) ≡ true
-    → digits_value 10 (take (i + 1) bs) ≡ digits_value 10 (take i bs) * 10 + (get_or bs i 0 - 48)
-value_step bs i h e =
-    let d = digit_bounds (get_or bs i 0) e in
-    let v : digit_value (get_or bs i 0) + 48 ≡ get_or bs i 0 = digit_value_digit (get_or bs i 0) d in
-    digits_value_more 10 bs i h ∙ ap (λ n. digits_value 10 (take i bs) * 10 + n) (omega arith)
+-- k digits at the most write less than 10 ^ k
+pub short : (ds : List ℕ) (k : ℕ) → AllDigits 10 ds → length ds ≤ k → digits_value 10 ds < 10 ^ k
+short = digits_value_short (numerals_by_value (AllDigits 10) tells_digits)
 
--- i digits write less than 10 ^ i, and so twelve less than 10 ^ 12
-pub grown : (v i d : ℕ) → v < 10 ^ i → d ≤ 9 → v * 10 + d < 10 ^ (i + 1)
-grown v i d h k = rw (add-one, pow-suc) (omega arith)
-
-pub under : (v i n : ℕ) → i ≤ n → v < 10 ^ i → v < 10 ^ n
-under v i n l h = let m : 10 ^ i ≤ 10 ^ n = pow-le-pow_right (lit< tt) l in omega arith
-
--- what is cut off at n is no longer than n
-pub length_cut : (ys xs : List ℕ) (n : ℕ) → ys ≡ take n xs → length ys ≤ n
-length_cut ys xs n e = omega (arith, ap length e, length-take n xs)
+-- one digit more
+pub value_step : (ds : List ℕ) (i : ℕ) → AllDigits 10 ds → i < length ds
+    → digits_value 10 (take (i + 1) ds) ≡ digits_value 10 (take i ds) * 10 + (get_or ds i 0 - 48)
+value_step ds i all h =
+    let v : digit_value (get_or ds i 0) + 48 ≡ get_or ds i 0 = digit_value_digit (get_or ds i 0) (digit_at ds i all h) in
+    digits_value_more 10 ds i h ∙ ap (λ n. digits_value 10 (take i ds) * 10 + n) (omega arith)

@@ -24,7 +24,7 @@ module _ (d : Directory) (bs : List ℕ) where
       both (Some x) p q =
           let same : x ≡ ends_at d bs k = grind (arith, nat_tests) in
           (p ∙ ap Some same, rw same at q)
-      both None p q = absurd (let z : ◌≡◌ {A = ℕ} 0 1 = cc in omega arith)
+      both None p q = cc
 
   -- what a placed pair keeps
   pub keeps : (k floor : ℕ) → placed d bs k floor ≡ Some (ends_at d bs k)
@@ -56,10 +56,10 @@ no_row bs e = counted (row_count bs) refl e
   where
     none : (o : Option ℕ) → misplaced_row o ≡ None → o ≡ None
     none None q = refl
-    none (Some row) q = absurd (let z : ◌≡◌ {A = ℕ} 0 1 = cc in omega arith)
+    none (Some row) q = cc
 
     counted : (r : Result ℕ Refusal) → row_count bs ≡ r → directory_refusal bs r ≡ None → first_misplaced Rows bs (word bs 0) ≡ None
-    counted (Err x) p q = absurd (let z : ◌≡◌ {A = ℕ} 0 1 = cc in omega arith)
+    counted (Err x) p q = cc
     counted (Ok rows) p q =
         let same : rows ≡ word bs 0 = grind (arith, nat_tests) in
         rw same at (none (first_misplaced Rows bs rows) q)

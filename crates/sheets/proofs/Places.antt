@@ -2,7 +2,7 @@
 use Rattle.std.proofs.Common.{◌≡◌, ℕ, zero, suc, ◌+◌, ◌-◌, ◌*◌, ◌<◌, ◌≤◌, Bool, true, false, cond, ◌&&◌, eqb, ltb, List, [], ◌∷◌, ◌++◌, length, get_or, take, drop, replicate, Some, None, Ok, Err, sym, refl, ap, ◌∙◌, subst, ⊎_elim, arith, lit≤, ltb-false, ltb-true, eqb-true}
 use borrow.Author.Tests.{eqb-false}
 use Rattle.std.proofs.lemmas.List.{length-drop, length-replicate, get_or-replicate, get_or-drop, get_or_past, nil_from_length}
-use Rattle.std.proofs.lemmas.Bool.{cases_eq, cases_lt}
+use Rattle.std.proofs.lemmas.Bool.{cases_eq, cases_lt, true≢false}
 use Rattle.orders.specs.declared.price.Price.{Price}
 use Rattle.sheets.specs.Cells.{is_digit, digits, written, is_blank, read_number, read_price, read_type}
 use Rattle.sheets.specs.Places.{GoodNumber, GoodPrice, GoodType, Begins, FirstWrong, Told, CellsTold}
@@ -10,7 +10,7 @@ use Rattle.sheets.proofs.Fronts.{within_most, within_cell, digit_at, stops_at, l
 
 -- a byte is not both a digit and something else
 clash : (b : Bool) → b ≡ true → b ≡ false → ⊥
-clash b p q = let z : true ≡ false = sym p ∙ q in let y : ◌≡◌ {A = ℕ} 0 1 = cc in omega arith
+clash b p q = true≢false (sym p ∙ q)
 
 -- zeros are digits
 zeros : (k i : ℕ) → i < k → is_digit (get_or (replicate k 48) i 0) ≡ true

@@ -9,10 +9,3 @@ pub walk_more : (d : Directory) (bs : List ℕ) (n k floor end : ℕ) → k < n 
 walk_more d bs n k floor end h p =
     let e : n - k ≡ suc (n - (k + 1)) = omega arith in
     rw e (ap (λ (o : Option ℕ). elim o [ Some x ↦ walk d bs (n - (k + 1)) (k + 1) x | None ↦ Some (k + 1) ]) p)
-
--- one that is not ends the walk
-pub walk_stops : (d : Directory) (bs : List ℕ) (n k floor : ℕ) → k < n → placed d bs k floor ≡ None
-    → walk d bs (n - k) k floor ≡ Some (k + 1)
-walk_stops d bs n k floor h p =
-    let e : n - k ≡ suc (n - (k + 1)) = omega arith in
-    rw e (ap (λ (o : Option ℕ). elim o [ Some x ↦ walk d bs (n - (k + 1)) (k + 1) x | None ↦ Some (k + 1) ]) p)

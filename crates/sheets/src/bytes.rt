@@ -1,11 +1,11 @@
 // Looks into bytes: a byte past the end reads 0, and a part that would lie outside is cut.
-ghost use Rattle.std.specs.Prelude.{◌≡◌, ◌+◌, ◌-◌, ◌*◌, length, drop, slice_index};
+ghost use Rattle.std.specs.Prelude.{◌≡◌, drop, slice_index};
 ghost use Rattle.sheets.specs.Layout.{word, part};
 
 pub(crate) fn byte_at(bytes: &[u8], i: usize) -> u8
     ensures { result ≡ slice_index bytes.now i }
 {
-    if i < bytes.len() { bytes[i] } else { 0 }
+    bytes.get(i).copied().unwrap_or(0)
 }
 
 // The two-byte number at i, the high byte first.
@@ -13,22 +13,18 @@ pub(crate) fn word_at(bytes: &[u8], i: u32) -> u16
     ensures { result ≡ word bytes.now i }
 {
     let at = i as usize;
-    u16::from(byte_at(bytes, at)) * 256 + u16::from(byte_at(bytes, at + 1))
+    u16::from_be_bytes([byte_at(bytes, at), byte_at(bytes, at + 1)])
 }
 
 pub fn bytes_from(bytes: &[u8], i: usize) -> &[u8]
     ensures { result.now ≡ drop i bytes.now }
 {
-    if i < bytes.len() { &bytes[i..] } else { &[] }
+    bytes.get(i..).unwrap_or(&[])
 }
 
 pub fn part_of(bytes: &[u8], offset: usize, len: usize) -> &[u8]
     ensures { result.now ≡ part bytes.now offset len }
 {
     let rest = bytes_from(bytes, offset);
-    if len < rest.len() {
-        &rest[0..len]
-    } else {
-        rest
-    }
+    rest.get(..len).unwrap_or(rest)
 }

@@ -1,9 +1,12 @@
 // The letter that a row begins with.
-ghost use Rattle.std.specs.Prelude.{◌≡◌};
+ghost use Rattle.std.specs.Prelude.{◌≡◌, ok_or};
+ghost use Rattle.forms.specs.declared.refusal.Refusal.TheVariants.{UnknownRow};
 ghost use Rattle.sheets.specs.Letters.{letter_of, cells_of};
 
+use forms::refusal::Refusal;
+
 // What a row asks for.
-#[derive(Clone, Copy)]
+#[derive(Clone, Copy, Debug, PartialEq, Eq, Hash)]
 pub enum Letter {
     Entry,
     Change,
@@ -13,21 +16,26 @@ pub enum Letter {
     Opening,
 }
 
-impl Letter {
-    pub fn of(byte: u8) -> Option<Letter>
-        ensures told { result ≡ letter_of byte }
-    {
+// A row that begins with any other byte is unknown.
+impl TryFrom<u8> for Letter {
+    type Error = Refusal;
+
+    ghost try_from_gives = { λ byte told. told ≡ ok_or (letter_of byte) UnknownRow };
+
+    fn try_from(byte: u8) -> Result<Letter, Refusal> {
         match byte {
-            b'E' => Some(Letter::Entry),
-            b'M' => Some(Letter::Change),
-            b'X' => Some(Letter::Cancel),
-            b'A' => Some(Letter::MassCancel),
-            b'Z' => Some(Letter::Closing),
-            b'O' => Some(Letter::Opening),
-            _ => None,
+            b'E' => Ok(Letter::Entry),
+            b'M' => Ok(Letter::Change),
+            b'X' => Ok(Letter::Cancel),
+            b'A' => Ok(Letter::MassCancel),
+            b'Z' => Ok(Letter::Closing),
+            b'O' => Ok(Letter::Opening),
+            _ => Err(Refusal::UnknownRow),
         }
     }
+}
 
+impl Letter {
     // How many cells a row of this letter has.
     pub fn cells(self) -> u8
         ensures told { result ≡ cells_of self }

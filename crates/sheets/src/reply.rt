@@ -5,7 +5,7 @@ ghost use Rattle.sheets.specs.Replies.{reply_of, sheet_reply};
 use forms::refusal::Refusal;
 
 // Row and cell count from 1; number is 0 where the row was accepted, and cell and place are 0 where there is none.
-#[derive(Clone, Copy, Debug, PartialEq)]
+#[derive(Clone, Copy, Debug, PartialEq, Eq, Hash)]
 pub struct Reply {
     pub row: u16,
     pub number: u8,

@@ -13,6 +13,7 @@ const MOST_ROWS: u16 = 512;
 const MOST_BYTES: usize = 65535;
 
 // A sheet's bytes, how many rows it has, and how many were handed out.
+// `done` is counted beside the bytes: the format's directory is walked where it lies, by a reader over the input slice.
 #[derive(Drop)]
 pub struct Sheet<'a> {
     bytes: &'a [u8],
@@ -49,14 +50,14 @@ impl<'a> Sheet<'a> {
             (λ e. sheet_refusal bytes.now ≡ Some e) }
     {
         let count = row_count(bytes)?;
-        match Directory::Rows.first_misplaced(bytes, count) {
-            Some(row) => Err(Refusal::RowMisplaced { row }),
-            None => Ok(Sheet {
-                bytes,
-                count,
-                done: 0,
-            }),
+        if let Some(row) = Directory::Rows.first_misplaced(bytes, count) {
+            return Err(Refusal::RowMisplaced { row });
         }
+        Ok(Sheet {
+            bytes,
+            count,
+            done: 0,
+        })
     }
 
     // How many rows the sheet has.

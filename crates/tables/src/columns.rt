@@ -95,7 +95,7 @@ pub(crate) fn letter_word(word: &[u8]) -> Option<Letter>
     ensures { result ≡ letter_word word.now }
 {
     match word {
-        [byte] => Letter::of(*byte),
+        [byte] => Letter::try_from(*byte).ok(),
         _ => None,
     }
 }
