@@ -4,8 +4,6 @@
 ghost use Rattle.cases.specs.Table.{Worked};
 
 // Every case of the table comes out as it says: the lines, and the orders and stops left.
-pub fn worked() -> bool
+pub fn worked()
     ensures { Worked }
-{
-    true
-}
+{}

@@ -10,45 +10,33 @@ ghost use Rattle.laws.specs.Smooth.{AlwaysSmooth, EnteredAsAsked, ChangedAsAsked
 ghost use Rattle.laws.specs.Teeth.{Teeth};
 
 // After setting up and after every step, every lot is accounted for, no bid meets an offer and no stop is ripe.
-pub fn always_lawful() -> u8
+pub fn always_lawful()
     ensures { AlwaysLawful }
-{
-    0
-}
+{}
 
 // No trade passes a limit or a turn, by a tally of the lines and arguments alone, which holds both orders.
-pub fn always_fair() -> u8
+pub fn always_fair()
     ensures { AlwaysFair }
-{
-    0
-}
+{}
 
 // Inside a step neither the tape nor the stamps run out, no number is put twice, and no refill is refused.
-pub fn always_smooth() -> u8
+pub fn always_smooth()
     ensures { AlwaysSmooth }
-{
-    0
-}
+{}
 
 // What an accepted entry or change asks for is what the order has.
-pub fn as_asked() -> u8
+pub fn as_asked()
     ensures entered { EnteredAsAsked }
     ensures changed { ChangedAsAsked }
-{
-    0
-}
+{}
 
 // Each law can be broken: by a lost or doubled lot, by a trade out of turn, past a limit or with a stranger, by a bid at an offer's price, by a ripe stop.
-pub fn laws_bite() -> u8
+pub fn laws_bite()
     ensures { Teeth }
-{
-    0
-}
+{}
 
 // Reach is what an order without end would trade; so whoever wants all, or a minimum, trades that or nothing.
-pub fn reach_means() -> u8
+pub fn reach_means()
     ensures lots { ReachMeans }
     ensures filled { AlwaysFilled }
-{
-    0
-}
+{}

@@ -43,8 +43,6 @@ pub fn read_line(line: &[u8]) -> Result<Option<Form>, BadWord>
 
 // The worked lines are read as they say.
 #[tactic(auto, unfolding(crate::specs::Lines::read_words))]
-pub fn worked() -> bool
+pub fn worked()
     ensures { Worked }
-{
-    true
-}
+{}

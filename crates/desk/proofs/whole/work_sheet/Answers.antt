@@ -1,9 +1,7 @@
 use Rattle.std.proofs.Common.{Option, sym, ap, ◌∙◌}
-use Rattle.std.specs.Option.{option_map}
 use Rattle.forms.specs.declared.refusal.Refusal.{Refusal}
 use Rattle.venue.specs.Days.{state}
 use Rattle.sheets.specs.declared.sheet.Sheet.{Sheet}
-use Rattle.sheets.specs.Replies.{sheet_reply}
 use Rattle.sheets.specs.Sheets.{moved_on}
 use Rattle.desk.specs.Desks.{Desk, desk, rows_unless}
 use Rattle.desk.proofs.Rounds.{worked, a_row, no_row, from_the_first}
@@ -18,16 +16,12 @@ loop-drawn-preserved g c =
     ∙ a_row c.loop-drawn.sheet c.in-Some.drawn before c.in-Some.ensures.told
     ∙ c.loop-drawn.invariant
 
-pub returns : goal.returns
-returns g c =
+pub returns-clause-left : goal.returns-clause-left
+returns-clause-left g c =
     let bytes = c.args.bytes.now in
     let before = desk (state (g.B.Book.queues c.args.book.now) c.args.tape.now c.args.day) c.args.replies.now in
     let admitted = c.in-Ok.ensures in
-    record {
-      told = sym (ap (option_map sheet_reply) admitted.0);
-      left =
-          no_row c.loop-drawn.sheet _ c.in_default.ensures.told
-          ∙ c.loop-drawn.invariant
-          ∙ from_the_first bytes c.in-Ok.sheet before admitted.1
-          ∙ sym (ap (λ (m : Option Refusal). rows_unless m bytes before) admitted.0);
-    }
+    no_row c.loop-drawn.sheet _ c.in_default.ensures.told
+    ∙ c.loop-drawn.invariant
+    ∙ from_the_first bytes c.in-Ok.sheet before admitted.1
+    ∙ sym (ap (λ (m : Option Refusal). rows_unless m bytes before) admitted.0)
