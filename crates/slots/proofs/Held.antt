@@ -18,14 +18,10 @@ held_append a b = filter_map-append (λ s. s) a b
 pub held_parts : {X : Type 0} (ss : List (Option X)) (i : ℕ) → held ss ≡ held (take i ss) ++ held (drop i ss)
 held_parts ss i = ap held (sym (take-append-drop i ss)) ∙ held_append (take i ss) (drop i ss)
 
-held_le : {X : Type 0} (ss : List (Option X)) → length (held ss) ≤ length ss
+pub held_le : {X : Type 0} (ss : List (Option X)) → length (held ss) ≤ length ss
 held_le [] = omega arith
 held_le (None ∷ ss) = omega (arith, held_le ss)
 held_le (Some x ∷ ss) = omega (arith, held_le ss)
-
--- 32 slots hold all their records
-pub all_held : {X : Type 0} (ss : List (Option X)) → length ss ≡ 32 → take 32 (held ss) ≡ held ss
-all_held ss n = take_all 32 (held ss) (omega (arith, held_le ss))
 
 -- where no slot is free, and where one is
 all_taken : {X : Type 0} (i : ℕ) (ss : List (Option X)) → position_from is_none i ss ≡ None → length (held ss) ≡ length ss

@@ -1,5 +1,5 @@
 // A lane of 32 slots, in rank order, free ones between.
-#![tactic(auto, using(crate::proofs::Held::all_held))]
+#![tactic(auto, using(crate::proofs::Lane::all_held))]
 
 ghost use Rattle.std.specs.Prelude.{◌≡◌, ◌<◌, ◌≤◌, [], ◌∷◌, ◌++◌, length, take, drop, None, slice_index_or};
 ghost use Rattle.slots.specs.Slots.{held, slot_run};
