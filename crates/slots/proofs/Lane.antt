@@ -18,13 +18,14 @@ module _ {X : Type 0} (ss : List (Option X)) (n : length ss ≡ 32) where
   pub put_told : (i : ℕ) → FreeAt ss i → true ≡ ltb (length (take 32 (held ss))) 32
   put_told i f = sym (lt-ltb (length (take 32 (held ss))) 32 (omega (arith, n, ap length (all_held ss n), one_free ss i f.within f.free)))
 
-  pub put_left : (f : X → Rank) (ts : List (Option X)) → length ts ≡ 32 → (gap : ℕ) (x : X) → length (held (take gap ss)) ≡ place_of f (f x) (held ss) →
+  pub put_left : (f : X → Rank) (ts : List (Option X)) → length ts ≡ length ss → (gap : ℕ) (x : X) (k : Rank) → k ≡ f x → length (held (take gap ss)) ≡ place_of f k (held ss) →
       held ts ≡ held (take gap ss) ++ (x ∷ held (drop gap ss)) → take 32 (held ts) ≡ put_in f x (take 32 (held ss))
-  put_left f ts m gap x e h =
+  put_left f ts m gap x k r e h =
       let place = place_of f (f x) (held ss) in
+      let p : length (held (take gap ss)) ≡ place = e ∙ ap (λ k. place_of f k (held ss)) r in
       let at_place : put_in f x (held ss) ≡ held (take gap ss) ++ (x ∷ held (drop gap ss)) =
-      ap (λ l. take place l ++ (x ∷ drop place l)) (held_parts ss gap) ∙ rw (take_at (held (take gap ss)) (held (drop gap ss)) place e, drop_at (held (take gap ss)) (held (drop gap ss)) place e) refl in
-      all_held ts m ∙ h ∙ sym at_place ∙ ap (put_in f x) (sym (all_held ss n))
+      ap (λ l. take place l ++ (x ∷ drop place l)) (held_parts ss gap) ∙ rw (take_at (held (take gap ss)) (held (drop gap ss)) place p, drop_at (held (take gap ss)) (held (drop gap ss)) place p) refl in
+      all_held ts (m ∙ n) ∙ h ∙ sym at_place ∙ ap (put_in f x) (sym (all_held ss n))
 
   module _ (at i : ℕ) (s : StandsAt ss at i) where
     pub set_left : (x : X) → take 32 (held (set ss i (Some x))) ≡ set (take 32 (held ss)) at x

@@ -79,6 +79,6 @@ fn put_at<T: Copy>(slots: &mut [Option<T>], gap: usize, free: usize, x: T)
     if free < gap {
         slots[free..gap].rotate_left(1);
     } else {
-        slots[gap..free + 1].rotate_right(1);
+        slots[gap..=free].rotate_right(1);
     }
 }

@@ -1,7 +1,7 @@
 // Slots in rank order, free ones between: the records are what the taken slots hold, in order.
-ghost use Rattle.std.specs.Prelude.{◌≡◌, ℕ, ◌+◌, ◌-◌, ◌<◌, ◌≤◌, true, false, cond, [], ◌∷◌, ◌++◌, length, take, reverse, is_none};
+ghost use Rattle.std.specs.Prelude.{◌≡◌, ◌≤◌, length, take, reverse, is_none};
 ghost use Rattle.std.specs.List.{slice_get, prefix_len};
-ghost use Rattle.books.specs.Lists.{place_of, put_in, first_number};
+ghost use Rattle.books.specs.Lists.{place_of, first_number};
 ghost use Rattle.slots.specs.Slots.{held, not_behind, Stands, Free};
 
 use orders::rank::Rank;
@@ -48,7 +48,8 @@ pub fn gap_of<T: Ranked + Copy>(slots: &[Option<T>], rank: Rank) -> usize
     ensures within { result ≤ length slots.now }
 {
     let to = end_of(slots, rank);
-    to - free_behind(&slots[..to]) / 2
+    let free = free_behind(&slots[..to]);
+    to - free / 2
 }
 
 // The slot of the first record that a rank is before, or the end.
@@ -56,7 +57,7 @@ fn end_of<T: Ranked + Copy>(slots: &[Option<T>], rank: Rank) -> usize
     ensures is { result ≡ prefix_len (not_behind T.Ranked.place rank) slots.now }
     ensures within { result ≤ length slots.now }
 {
-    slots.iter().take_while(|s| not_behind(*s, rank)).count()
+    slots.iter().take_while(|s| not_behind(s, rank)).count()
 }
 
 // Whether a slot is free, or its record is one that a rank is not before.
