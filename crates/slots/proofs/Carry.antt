@@ -21,6 +21,7 @@ gone_on (None ∷ ss) zero (suc gap) k x n a b e =
 gone_on (None ∷ ss) (suc free) (suc gap) k x n a b e = gone_on ss free gap k x (omega (arith, n)) (omega (arith, a)) (omega (arith, b)) e
 gone_on (Some y ∷ ss) (suc free) (suc gap) k x n a b e = ap (λ (l : List _). y ∷ l) (gone_on ss free gap k x (omega (arith, n)) (omega (arith, a)) (omega (arith, b)) e)
 
+-- a record in a free slot, rotated to the front
 first : {X : Type 0} (ss : List (Option X)) (free k : ℕ) (x : X) → k ≡ free + 1 → free < length ss → get_or ss free None ≡ None →
     held ((drop (length (take k (set ss free (Some x))) - 1) (take k (set ss free (Some x))) ++ take (length (take k (set ss free (Some x))) - 1) (take k (set ss free (Some x))))
     ++ drop k (set ss free (Some x))) ≡ x ∷ held ss
@@ -31,7 +32,7 @@ first ss free k x n b e =
     rw (t, m, drop_at (take free ss) (Some x ∷ []) free l, take_at (take free ss) (Some x ∷ []) free l, drop-set-lt k ss free (Some x) (omega (arith, n)))
     (ap (λ (l : List _). x ∷ l) (held_append (take free ss) (drop k ss) ∙ sym (held_parts ss free ∙ rw (drop_more ss free None b, e, n) refl)))
 
--- it comes back before those from the gap on
+-- the free slot, with x in it, comes back before those from the gap on
 pub come_back : {X : Type 0} (ss : List (Option X)) (free gap k : ℕ) (x : X) → k ≡ free + 1 - gap → gap ≤ free → free < length ss → get_or ss free None ≡ None →
     held (put_mid gap k (set ss free (Some x)) (drop (length (mid_of gap k (set ss free (Some x))) - 1) (mid_of gap k (set ss free (Some x)))
     ++ take (length (mid_of gap k (set ss free (Some x))) - 1) (mid_of gap k (set ss free (Some x))))) ≡ With ss gap x

@@ -55,6 +55,7 @@ one_free (Some x ∷ ss) (suc i) l h = omega (arith, one_free ss i (omega arith)
 abbrev pub slots_from : {X : Type 0} → ℕ → List (Option X) → List ℕ
 slots_from k ss = filter_map (λ p. option_map (λ _. p.0) p.1) (enumerate_from k ss)
 
+-- the one at a place, and where there is none
 nth_slot : {X : Type 0} (k : ℕ) (ss : List (Option X)) (at i : ℕ) → Some i ≡ slice_get (slots_from k ss) at → (j : ℕ) × (i ≡ k + j) × StandsAt ss at j
 nth_slot k [] at i h = let z : ◌≡◌ {A = ℕ} 0 1 = cc in absurd (omega arith)
 nth_slot k (None ∷ ss) at i h =
@@ -100,11 +101,12 @@ held_freed (Some x ∷ ss) zero l t = refl
 held_freed (None ∷ ss) (suc i) l t = held_freed ss i (omega arith) t
 held_freed (Some x ∷ ss) (suc i) l t = ap (λ (l : List _). x ∷ l) (held_freed ss i (omega arith) t)
 
+-- one more in front
 take_one : {A : Type 0} (n : ℕ) (x : A) (xs : List A) → take (1 + n) (x ∷ xs) ≡ x ∷ take n xs
 take_one n x xs = let e : 1 + n ≡ suc n = omega arith in ap (λ k. take k (x ∷ xs)) e
 
--- where a rank's records end, and how far back the slots before are free
-pub held_end : {X : Type 0} (f : X → Rank) (k : Rank) (ss : List (Option X)) → length (held (take (prefix_len (not_behind f k) ss) ss)) ≡ place_of f k (held ss)
+-- where a rank's records end
+held_end : {X : Type 0} (f : X → Rank) (k : Rank) (ss : List (Option X)) → length (held (take (prefix_len (not_behind f k) ss) ss)) ≡ place_of f k (held ss)
 held_end f k [] = refl
 held_end f k (None ∷ ss) = ap (λ l. length (held l)) (take_one (prefix_len (not_behind f k) ss) None ss) ∙ held_end f k ss
 held_end f k (Some x ∷ ss) = one (not (before k (f x))) (held_end f k ss)
@@ -114,6 +116,7 @@ held_end f k (Some x ∷ ss) = one (not (before k (f x))) (held_end f k ss)
     one true e = ap (λ l. length (held l)) (take_one (prefix_len (not_behind f k) ss) (Some x) ss) ∙ omega (arith, e)
     one false e = refl
 
+-- free slots at the end hold nothing; the list stands reversed
 free_back : {X : Type 0} (ss : List (Option X)) (k : ℕ) → k ≤ prefix_len is_none ss → length (held (take (length ss - k) (reverse ss))) ≡ length (held (reverse ss))
 free_back ss zero h = ap (λ l. length (held l)) (take_all (length ss - 0) (reverse ss) (omega (arith, length-reverse ss)))
 free_back [] (suc k) h = absurd (omega arith)
