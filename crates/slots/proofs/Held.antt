@@ -1,81 +1,80 @@
--- What becomes of the records when slots are read, written and moved.
-use Rattle.std.proofs.Common.{◌≡◌, ℕ, zero, suc, ◌+◌, ◌-◌, ◌<◌, ◌≤◌, Bool, true, false, List, [], ◌∷◌, ◌++◌, length, get_or, take, drop, set, is_some, Some, None, Option, sym, refl, ap, ◌∙◌, ⊎_elim, arith}
-use Rattle.std.specs.List.{prefix_len, insert, remove, slice_get}
-use Rattle.std.proofs.lemmas.Bool.{true≢false, false≢true, cases_lt}
-use Rattle.std.proofs.lemmas.List.{take_more, drop_more, take_all, drop_all, length-append, length_push, take-append-drop, take_at, drop_at, take-take, length-take}
-use Rattle.slots.specs.Slots.{held}
+-- What becomes of the records when slots are read and written.
+use Rattle.std.proofs.Common.{◌≡◌, ℕ, zero, suc, ◌+◌, ◌-◌, ◌<◌, ◌≤◌, Bool, true, false, cond, not, List, [], ◌∷◌, ◌++◌, length, get_or, take, drop, set, reverse, is_some, is_none, Some, None, Option, sym, refl, ap, ◌∙◌, arith}
+use Rattle.std.specs.List.{prefix_len, position, position_from, enumerate_from, filter_map, remove, slice_get}
+use Rattle.std.specs.Option.{option_map}
+use Rattle.std.proofs.lemmas.Bool.{false≢true}
+use Rattle.std.proofs.lemmas.Grind.{reverse_onto}
+use Rattle.std.proofs.lemmas.Iterator.Adapters.{position_from-zero}
+use Rattle.std.proofs.lemmas.List.{take_all, take-take, length-take-le, reverse-reverse, take-append-drop, take-append-le, length-append, length-reverse}
+use Rattle.std.proofs.lemmas.List.Elements.{filter_map-append}
+use Rattle.orders.specs.declared.rank.Rank.{Rank}
+use Rattle.orders.specs.Ranks.{before}
+use Rattle.books.specs.Lists.{place_of}
+use Rattle.slots.specs.Slots.{held, not_behind, Stands, StandsAt}
 
 pub held_append : {X : Type 0} (a b : List (Option X)) → held (a ++ b) ≡ held a ++ held b
-held_append [] b = refl
-held_append (None ∷ a) b = held_append a b
-held_append (Some x ∷ a) b = ap (λ (l : List _). x ∷ l) (held_append a b)
+held_append a b = filter_map-append (λ s. s) a b
+
+pub held_parts : {X : Type 0} (ss : List (Option X)) (i : ℕ) → held ss ≡ held (take i ss) ++ held (drop i ss)
+held_parts ss i = ap held (sym (take-append-drop i ss)) ∙ held_append (take i ss) (drop i ss)
 
 pub held_le : {X : Type 0} (ss : List (Option X)) → length (held ss) ≤ length ss
 held_le [] = omega arith
 held_le (None ∷ ss) = omega (arith, held_le ss)
 held_le (Some x ∷ ss) = omega (arith, held_le ss)
 
--- where every slot is taken
-pub all_taken : {X : Type 0} (ss : List (Option X)) → ((k : ℕ) → k < length ss → is_some (get_or ss k None) ≡ true) → length (held ss) ≡ length ss
-all_taken [] h = refl
-all_taken (None ∷ ss) h = absurd (false≢true (h 0 (omega arith)))
-all_taken (Some x ∷ ss) h = ap suc (all_taken ss (λ k l. h (suc k) (omega arith)))
+-- where no slot is free, and where one is
+all_taken : {X : Type 0} (i : ℕ) (ss : List (Option X)) → position_from is_none i ss ≡ None → length (held ss) ≡ length ss
+all_taken i [] h = refl
+all_taken i (None ∷ ss) h = let z : ◌≡◌ {A = ℕ} 0 1 = cc in absurd (omega arith)
+all_taken i (Some x ∷ ss) h = ap suc (all_taken (i + 1) ss h)
 
--- where one is free
+taken : {X : Type 0} (ss : List (Option X)) → position is_none ss ≡ None → length (held ss) ≡ length ss
+taken ss h = all_taken 0 ss (sym (position_from-zero is_none ss) ∙ h)
+
+held_reverse : {X : Type 0} (ss : List (Option X)) → length (held (reverse ss)) ≡ length (held ss)
+held_reverse [] = refl
+held_reverse (None ∷ ss) = rw (reverse_onto ss None [], held_append (reverse ss) (None ∷ []), length-append) (omega (arith, held_reverse ss))
+held_reverse (Some x ∷ ss) = rw (reverse_onto ss (Some x) [], held_append (reverse ss) (Some x ∷ []), length-append) (omega (arith, held_reverse ss))
+
+pub none_free : {X : Type 0} (ss : List (Option X)) (gap : ℕ) → position is_none (reverse (take gap ss)) ≡ None →
+    position is_none (drop gap ss) ≡ None → length (held ss) ≡ length ss
+none_free ss gap before behind =
+    let a : length (held (take gap ss)) ≡ length (take gap ss) = sym (held_reverse (take gap ss)) ∙ taken (reverse (take gap ss)) before ∙ length-reverse (take gap ss) in
+    let b : length (held (drop gap ss)) ≡ length (drop gap ss) = taken (drop gap ss) behind in
+    ap length (held_parts ss gap) ∙ length-append (held (take gap ss)) (held (drop gap ss))
+    ∙ omega (arith, a, b, length-append (take gap ss) (drop gap ss), ap length (take-append-drop gap ss))
+
 pub one_free : {X : Type 0} (ss : List (Option X)) (i : ℕ) → i < length ss → get_or ss i None ≡ None → length (held ss) < length ss
 one_free [] i l h = absurd (omega arith)
 one_free (None ∷ ss) i l h = omega (arith, held_le ss)
 one_free (Some x ∷ ss) zero l h = let z : ◌≡◌ {A = ℕ} 0 1 = cc in absurd (omega arith)
 one_free (Some x ∷ ss) (suc i) l h = omega (arith, one_free ss i (omega arith) h)
 
--- one slot more
-pub count_taken : {X : Type 0} (ss : List (Option X)) (i : ℕ) (s : Option X) → i < length ss → s ≡ get_or ss i s → is_some s ≡ true →
-    length (held (take (i + 1) ss)) ≡ length (held (take i ss)) + 1
-count_taken ss i (Some x) l e t = rw (take_more ss i (Some x) l, ← e, held_append (take i ss) (Some x ∷ []), length_push) refl
-count_taken ss i None l e t = absurd (false≢true t)
+-- the slots of the records, counted from k
+abbrev pub slots_from : {X : Type 0} → ℕ → List (Option X) → List ℕ
+slots_from k ss = filter_map (λ p. option_map (λ _. p.0) p.1) (enumerate_from k ss)
 
-pub count_free : {X : Type 0} (ss : List (Option X)) (i : ℕ) (s : Option X) → i < length ss → s ≡ get_or ss i s → is_some s ≡ false →
-    length (held (take (i + 1) ss)) ≡ length (held (take i ss))
-count_free ss i (Some x) l e t = absurd (true≢false t)
-count_free ss i None l e t = rw (take_more ss i None l, ← e, held_append (take i ss) (None ∷ []), length-append) (omega arith)
+-- the one at a place, and where there is none
+nth_slot : {X : Type 0} (k : ℕ) (ss : List (Option X)) (at i : ℕ) → Some i ≡ slice_get (slots_from k ss) at → (j : ℕ) × (i ≡ k + j) × StandsAt ss at j
+nth_slot k [] at i h = let z : ◌≡◌ {A = ℕ} 0 1 = cc in absurd (omega arith)
+nth_slot k (None ∷ ss) at i h =
+    let r = nth_slot (k + 1) ss at i h in
+    (suc r.0, omega (arith, r.1), record { within = omega (arith, r.2.within); taken = r.2.taken; before = r.2.before })
+nth_slot k (Some x ∷ ss) zero i h = let e : i ≡ k = cc in (0, omega (arith, e), record { within = omega arith; taken = refl; before = refl })
+nth_slot k (Some x ∷ ss) (suc at) i h =
+    let r = nth_slot (k + 1) ss at i h in
+    (suc r.0, omega (arith, r.1), record { within = omega (arith, r.2.within); taken = r.2.taken; before = ap suc r.2.before })
 
--- what a test tells of the records from slot i on
-abbrev pub Scanned : {X : Type 0} → (X → Bool) → List (Option X) → ℕ → Type 0
-Scanned p ss i = prefix_len p (held ss) ≡ length (held (take i ss)) + prefix_len p (held (drop i ss))
+no_slot : {X : Type 0} (k : ℕ) (ss : List (Option X)) (at : ℕ) → None ≡ slice_get (slots_from k ss) at → length (held ss) ≤ at
+no_slot k [] at h = omega arith
+no_slot k (None ∷ ss) at h = no_slot (k + 1) ss at h
+no_slot k (Some x ∷ ss) zero h = let z : ◌≡◌ {A = ℕ} 0 1 = cc in absurd (omega arith)
+no_slot k (Some x ∷ ss) (suc at) h = omega (arith, no_slot (k + 1) ss at h)
 
-pub scanned_none : {X : Type 0} (p : X → Bool) (ss : List (Option X)) → Scanned p ss 0
-scanned_none p ss = omega arith
-
-pub scanned_free : {X : Type 0} (p : X → Bool) (ss : List (Option X)) (i : ℕ) (s : Option X) → i < length ss → s ≡ get_or ss i s →
-    is_some s ≡ false → Scanned p ss i → Scanned p ss (i + 1)
-scanned_free p ss i (Some x) l e t h = absurd (true≢false t)
-scanned_free p ss i None l e t h = rw (count_free ss i None l e refl) (h ∙ rw (drop_more ss i None l, ← e) refl)
-
-pub scanned_yes : {X : Type 0} (p : X → Bool) (ss : List (Option X)) (i : ℕ) (s : Option X) (y : X) → i < length ss → s ≡ get_or ss i s →
-    s ≡ Some y → p y ≡ true → Scanned p ss i → Scanned p ss (i + 1)
-scanned_yes p ss i (Some x) y l e t b h =
-    let k : x ≡ y = cc in
-    let d : prefix_len p (held (drop i ss)) ≡ 1 + prefix_len p (held (drop (i + 1) ss)) = rw (drop_more ss i (Some x) l, ← e, k, b) refl in
-    omega (arith, h, d, count_taken ss i (Some x) l e refl)
-scanned_yes p ss i None y l e t b h = let z : ◌≡◌ {A = ℕ} 0 1 = cc in absurd (omega arith)
-
-pub scanned_no : {X : Type 0} (p : X → Bool) (ss : List (Option X)) (i : ℕ) (s : Option X) (y : X) → i < length ss → s ≡ get_or ss i s →
-    s ≡ Some y → p y ≡ false → Scanned p ss i →
-    (prefix_len p (held ss) ≡ length (held (take i ss))) × (length (held (take i ss)) < length (held ss))
-scanned_no p ss i (Some x) y l e t b h =
-    let k : x ≡ y = cc in
-    let d : prefix_len p (held (drop i ss)) ≡ 0 = rw (drop_more ss i (Some x) l, ← e, k, b) refl in
-    let m : length (held (drop i ss)) ≡ 1 + length (held (drop (i + 1) ss)) = rw (drop_more ss i (Some x) l, ← e) (omega arith) in
-    let a : length (held ss) ≡ length (held (take i ss)) + length (held (drop i ss)) = ap (λ l. length (held l)) (sym (take-append-drop i ss))
-    ∙ ap length (held_append (take i ss) (drop i ss)) ∙ length-append (held (take i ss)) (held (drop i ss)) in
-    (omega (arith, h, d), omega (arith, m, a))
-scanned_no p ss i None y l e t b h = let z : ◌≡◌ {A = ℕ} 0 1 = cc in absurd (omega arith)
-
-pub scanned_all : {X : Type 0} (p : X → Bool) (ss : List (Option X)) (i : ℕ) → length ss ≤ i → Scanned p ss i → prefix_len p (held ss) ≡ length (held ss)
-scanned_all p ss i l h =
-    let d : prefix_len p (held (drop i ss)) ≡ 0 = rw (drop_all i ss l) refl in
-    let t : length (held (take i ss)) ≡ length (held ss) = rw (take_all i ss l) refl in
-    omega (arith, h, d, t)
+pub stands : {X : Type 0} (ss : List (Option X)) (at : ℕ) (r : Option ℕ) → r ≡ slice_get (slots_from 0 ss) at → Stands ss at r
+stands ss at None h = no_slot 0 ss at h
+stands ss at (Some i) h = let r = nth_slot 0 ss at i h in let e : i ≡ r.0 = omega (arith, r.1) in rw e r.2
 
 -- the record in a taken slot, another one in it, and none
 pub nth_held : {X : Type 0} (ss : List (Option X)) (i : ℕ) → i < length ss → is_some (get_or ss i None) ≡ true →
@@ -102,51 +101,41 @@ held_freed (Some x ∷ ss) zero l t = refl
 held_freed (None ∷ ss) (suc i) l t = held_freed ss i (omega arith) t
 held_freed (Some x ∷ ss) (suc i) l t = ap (λ (l : List _). x ∷ l) (held_freed ss i (omega arith) t)
 
--- one record more at a gap
-pub held_parts : {X : Type 0} (ss : List (Option X)) (i : ℕ) → held ss ≡ held (take i ss) ++ held (drop i ss)
-held_parts ss i = ap held (sym (take-append-drop i ss)) ∙ held_append (take i ss) (drop i ss)
+-- one more in front
+take_one : {A : Type 0} (n : ℕ) (x : A) (xs : List A) → take (1 + n) (x ∷ xs) ≡ x ∷ take n xs
+take_one n x xs = let e : 1 + n ≡ suc n = omega arith in ap (λ k. take k (x ∷ xs)) e
 
-pub at_gap : {X : Type 0} (ss : List (Option X)) (gap n : ℕ) (y : X) → length (held (take gap ss)) ≡ n →
-    insert (held ss) n y ≡ held (take gap ss) ++ (y ∷ held (drop gap ss))
-at_gap ss gap n y e = rw (held_parts ss gap, take_at (held (take gap ss)) (held (drop gap ss)) n e, drop_at (held (take gap ss)) (held (drop gap ss)) n e) refl
+-- where a rank's records end
+held_end : {X : Type 0} (f : X → Rank) (k : Rank) (ss : List (Option X)) → length (held (take (prefix_len (not_behind f k) ss) ss)) ≡ place_of f k (held ss)
+held_end f k [] = refl
+held_end f k (None ∷ ss) = ap (λ l. length (held l)) (take_one (prefix_len (not_behind f k) ss) None ss) ∙ held_end f k ss
+held_end f k (Some x ∷ ss) = one (not (before k (f x))) (held_end f k ss)
+  where
+    one : (b : Bool) → length (held (take (prefix_len (not_behind f k) ss) ss)) ≡ place_of f k (held ss) →
+        length (held (take (cond b (1 + prefix_len (not_behind f k) ss) 0) (Some x ∷ ss))) ≡ cond b (1 + place_of f k (held ss)) 0
+    one true e = ap (λ l. length (held l)) (take_one (prefix_len (not_behind f k) ss) (Some x) ss) ∙ omega (arith, e)
+    one false e = refl
 
--- every slot nearer to the gap than d is taken
-abbrev pub Near : {X : Type 0} → List (Option X) → ℕ → ℕ → Type 0
-Near ss gap d = (k : ℕ) → gap ≤ k + d → k < gap + d → k < length ss → is_some (get_or ss k None) ≡ true
+-- free slots at the end hold nothing; the list stands reversed
+free_back : {X : Type 0} (ss : List (Option X)) (k : ℕ) → k ≤ prefix_len is_none ss → length (held (take (length ss - k) (reverse ss))) ≡ length (held (reverse ss))
+free_back ss zero h = ap (λ l. length (held l)) (take_all (length ss - 0) (reverse ss) (omega (arith, length-reverse ss)))
+free_back [] (suc k) h = absurd (omega arith)
+free_back (Some x ∷ ss) (suc k) h = absurd (omega arith)
+free_back (None ∷ ss) (suc k) h =
+    let n : suc (length ss) - suc k ≡ length ss - k = omega arith in
+    rw (reverse_onto ss None [], held_append (reverse ss) (None ∷ []), length-append)
+    (ap (λ l. length (held l)) (ap (λ n. take n (reverse ss ++ (None ∷ []))) n ∙ take-append-le (length ss - k) (reverse ss) (None ∷ []) (omega (arith, length-reverse ss)))
+    ∙ free_back ss k (omega (arith, h)) ∙ omega arith)
 
-pub near_none : {X : Type 0} (ss : List (Option X)) (gap : ℕ) → Near ss gap 0
-near_none ss gap k a b l = absurd (omega arith)
-
-pub near_more : {X : Type 0} (ss : List (Option X)) (gap d : ℕ) → (d < gap → is_some (get_or ss (gap - 1 - d) None) ≡ true) →
-    (d < length ss - gap → is_some (get_or ss (gap + d) None) ≡ true) → Near ss gap d → Near ss gap (d + 1)
-near_more ss gap d before behind near k a b l = ⊎_elim
-    (λ (h : k + d < gap). let e : k ≡ gap - 1 - d = omega arith in rw e (before (omega arith)))
-    (λ (h : gap ≤ k + d). ⊎_elim
-    (λ (m : k < gap + d). near k h m l)
-    (λ (m : gap + d ≤ k). let e : k ≡ gap + d = omega arith in rw e (behind (omega arith)))
-    (cases_lt k (gap + d)))
-    (cases_lt (k + d) gap)
-
-pub near_all : {X : Type 0} (ss : List (Option X)) (gap d : ℕ) → gap ≤ length ss → length ss ≤ d → Near ss gap d → length (held ss) ≡ length ss
-near_all ss gap d l m near = all_taken ss (λ k h. near k (omega arith) (omega arith) h)
-
-pub taken_le : {X : Type 0} (ss : List (Option X)) (i : ℕ) → length (held (take i ss)) ≤ i
-taken_le ss i = omega (arith, held_le (take i ss), length-take i ss)
-
-pub some_is : {X : Type 0} (s : Option X) (y : X) → s ≡ Some y → is_some s ≡ true
-some_is s y e = ap is_some e
-
-pub none_is : {X : Type 0} (s : Option X) → s ≡ None → is_some s ≡ false
-none_is s e = ap is_some e
-
--- all between two slots before which as many are taken
-count_grows : {X : Type 0} (ss : List (Option X)) (i j : ℕ) → i ≤ j → length (held (take i ss)) ≤ length (held (take j ss))
-count_grows ss i j l = rw (held_parts (take j ss) i, take-take i j ss l, length-append (held (take i ss)) (held (drop i (take j ss)))) (omega arith)
-
-pub count_between : {X : Type 0} (ss : List (Option X)) (i k j n : ℕ) → i ≤ k → k ≤ j → length (held (take i ss)) ≡ n →
-    length (held (take j ss)) ≡ n → length (held (take k ss)) ≡ n
-count_between ss i k j n a b p q = omega (arith, count_grows ss i k a, count_grows ss k j b, p, q)
-
--- 32 slots hold all their records
-pub all_held : {X : Type 0} (ss : List (Option X)) → length ss ≡ 32 → take 32 (held ss) ≡ held ss
-all_held ss n = take_all 32 (held ss) (omega (arith, held_le ss))
+-- a place in the middle of the free slots where a rank's records end
+pub held_middle : {X : Type 0} (f : X → Rank) (k : Rank) (ss : List (Option X)) (to n : ℕ) → to ≡ prefix_len (not_behind f k) ss → to ≤ length ss →
+    n ≤ prefix_len is_none (reverse (take to ss)) → length (held (take (to - n) ss)) ≡ place_of f k (held ss)
+held_middle f k ss to n e l h =
+    let ts : List (Option _) = take to ss in
+    let b : length (held (take (length (reverse ts) - n) (reverse (reverse ts)))) ≡ length (held (reverse (reverse ts))) = free_back (reverse ts) n h in
+    let m : length (reverse ts) ≡ to = length-reverse ts ∙ length-take-le to ss l in
+    ap (λ l. length (held l)) (sym (take-take (to - n) to ss (omega arith)))
+    ∙ ap (λ j. length (held (take (j - n) ts))) (sym m)
+    ∙ ap (λ l. length (held (take (length (reverse ts) - n) l))) (sym (reverse-reverse ts))
+    ∙ b ∙ ap (λ l. length (held l)) (reverse-reverse ts)
+    ∙ ap (λ j. length (held (take j ss))) e ∙ held_end f k ss

@@ -1,14 +1,20 @@
 -- What slots hold, and what a lane of 32 of them means.
-use Rattle.std.specs.Prelude.{◌≡◌, ℕ, ◌<◌, ◌≤◌, true, List, [], ◌∷◌, length, get_or, take, is_some, Some, None, Option, slice_index_or}
+use Rattle.std.specs.Prelude.{◌≡◌, ℕ, ◌<◌, ◌≤◌, Bool, true, not, List, length, get_or, take, is_some, Some, None, Option, slice_index_or}
+use Rattle.std.specs.List.{filter_map}
 use Rattle.std.proofs.Common.{arith}
 use Rattle.std.proofs.lemmas.List.{length-take}
+use Rattle.orders.specs.declared.rank.Rank.{Rank}
+use Rattle.orders.specs.Ranks.{before}
 use Rattle.books.specs.Runs.{Run}
 
 -- the records of the taken slots, in order
 abbrev pub held : {X : Type 0} → List (Option X) → List X
-held [] = []
-held (None ∷ ss) = held ss
-held (Some x ∷ ss) = x ∷ held ss
+held ss = filter_map (λ s. s) ss
+
+-- a slot that a rank k goes behind: a free one, or one whose record k is not before
+abbrev pub not_behind : {X : Type 0} → (X → Rank) → Rank → Option X → Bool
+not_behind f k None = true
+not_behind f k (Some x) = not (before k (f x))
 
 -- slot i is taken, and so many taken ones stand before it
 pub record StandsAt {X : Type 0} (ss : List (Option X)) (at i : ℕ) : Type 0 where

@@ -1,4 +1,6 @@
 // A lane of 32 slots, in rank order, free ones between.
+#![tactic(auto, using(crate::proofs::Lane::all_held))]
+
 ghost use Rattle.std.specs.Prelude.{◌≡◌, ◌<◌, ◌≤◌, [], ◌∷◌, ◌++◌, length, take, drop, None, slice_index_or};
 ghost use Rattle.slots.specs.Slots.{held, slot_run};
 
@@ -42,17 +44,11 @@ impl<T: Ranked + Copy> Lane for SlotRow<T> {
 
     fn put(&mut self, x: T) -> bool {
         let gap = gap_of(&self.slots, x.rank());
-        match free_near(&self.slots, gap) {
-            Some(free) => {
-                if free < gap {
-                    carry_back(&mut self.slots, free, gap, x);
-                } else {
-                    carry_on(&mut self.slots, gap, free, x);
-                }
-                true
-            }
-            None => false,
-        }
+        let Some(free) = free_near(&self.slots, gap) else {
+            return false;
+        };
+        put_at(&mut self.slots, gap, free, x);
+        true
     }
 
     fn replace(&mut self, at: usize, x: T) {
@@ -62,14 +58,8 @@ impl<T: Ranked + Copy> Lane for SlotRow<T> {
     }
 
     fn take(&mut self, at: usize) -> Option<T> {
-        match slot_of(&self.slots, at) {
-            Some(i) => {
-                let x = self.slots[i];
-                self.slots[i] = None;
-                x
-            }
-            None => None,
-        }
+        let i = slot_of(&self.slots, at)?;
+        self.slots[i].take()
     }
 
     fn clear(&mut self) {
@@ -77,32 +67,18 @@ impl<T: Ranked + Copy> Lane for SlotRow<T> {
     }
 }
 
-// x goes in at the gap, and what stands between it and a free slot further on moves one slot on.
-fn carry_on<T: Copy>(slots: &mut [Option<T>; 32], gap: usize, free: usize, x: T)
-    requires { (gap ≤ free) × ((free < 32) × ((slice_index_or slots.old free None ≡ None) × (length slots.old ≡ 32))) }
-    ensures same { length slots.new ≡ 32 }
+// x goes in at the gap: it takes the free slot, and what stands between the two makes room.
+fn put_at<T: Copy>(slots: &mut [Option<T>], gap: usize, free: usize, x: T)
+    requires gap { gap ≤ length slots.old }
+    requires within { free < length slots.old }
+    requires free { slice_index_or slots.old free None ≡ None }
+    ensures same { length slots.new ≡ length slots.old }
     ensures left { held slots.new ≡ held (take gap slots.old) ++ (x ∷ held (drop gap slots.old)) }
 {
-    let mut carried = Some(x);
-    for i in gap..free {
-        let next = slots[i];
-        slots[i] = carried;
-        carried = next;
+    slots[free] = Some(x);
+    if free < gap {
+        slots[free..gap].rotate_left(1);
+    } else {
+        slots[gap..=free].rotate_right(1);
     }
-    slots[free] = carried;
-}
-
-// x goes in before the gap, and what stands between a free slot and it moves one slot back.
-fn carry_back<T: Copy>(slots: &mut [Option<T>; 32], free: usize, gap: usize, x: T)
-    requires { (free < gap) × ((gap ≤ 32) × ((slice_index_or slots.old free None ≡ None) × (length slots.old ≡ 32))) }
-    ensures same { length slots.new ≡ 32 }
-    ensures left { held slots.new ≡ held (take gap slots.old) ++ (x ∷ held (drop gap slots.old)) }
-{
-    let mut carried = Some(x);
-    for i in (free + 1..gap).rev() {
-        let next = slots[i];
-        slots[i] = carried;
-        carried = next;
-    }
-    slots[free] = carried;
 }

@@ -1,8 +1,8 @@
 // Slots in rank order, free ones between: the records are what the taken slots hold, in order.
-ghost use Rattle.std.specs.Prelude.{◌≡◌, ℕ, ◌+◌, ◌-◌, ◌<◌, ◌≤◌, true, false, cond, [], ◌∷◌, ◌++◌, length, take, None};
-ghost use Rattle.std.specs.List.{slice_get, remove};
-ghost use Rattle.books.specs.Lists.{place_of, put_in, first_number};
-ghost use Rattle.slots.specs.Slots.{held, Stands, Free};
+ghost use Rattle.std.specs.Prelude.{◌≡◌, ◌≤◌, length, take, reverse, is_none};
+ghost use Rattle.std.specs.List.{slice_get, prefix_len};
+ghost use Rattle.books.specs.Lists.{place_of, first_number};
+ghost use Rattle.slots.specs.Slots.{held, not_behind, Stands, Free};
 
 use orders::rank::Rank;
 use orders::ranked::Ranked;
@@ -11,55 +11,35 @@ use orders::ranked::Ranked;
 pub fn count_in<T: Copy>(slots: &[Option<T>]) -> usize
     ensures { result ≡ length (held slots.now) }
 {
-    let mut n = 0;
-    for s in slots {
-        if s.is_some() {
-            n += 1;
-        }
-    }
-    n
+    slots.iter().filter_map(|s| *s).count()
 }
 
 // The slot of the record at a place.
 pub fn slot_of<T: Copy>(slots: &[Option<T>], at: usize) -> Option<usize>
     ensures { Stands slots.now at result }
 {
-    let mut n = 0;
-    for (i, s) in slots.iter().enumerate() {
-        if s.is_some() {
-            if n == at {
-                return Some(i);
-            }
-            n += 1;
-        }
-    }
-    None
+    slots
+        .iter()
+        .enumerate()
+        .filter_map(|(i, s)| s.map(|_| i))
+        .nth(at)
 }
 
 // The record at a place.
 pub fn look_in<T: Copy>(slots: &[Option<T>], at: usize) -> Option<T>
     ensures { result ≡ slice_get (held slots.now) at }
 {
-    match slot_of(slots, at) {
-        Some(i) => slots[i],
-        None => None,
-    }
+    slots.iter().filter_map(|s| *s).nth(at)
 }
 
 // The place of the first record with a number.
 pub fn find_in<T: Ranked + Copy>(slots: &[Option<T>], number: u32) -> Option<usize>
     ensures { result ≡ first_number T.Numbered.num number (held slots.now) }
 {
-    let mut n = 0;
-    for s in slots {
-        if let Some(y) = *s {
-            if y.number() == number {
-                return Some(n);
-            }
-            n += 1;
-        }
-    }
-    None
+    slots
+        .iter()
+        .filter_map(|s| *s)
+        .position(|y| y.number() == number)
 }
 
 // Where a rank belongs: behind the records that it is not before, in the middle of the free slots there.
@@ -67,23 +47,32 @@ pub fn gap_of<T: Ranked + Copy>(slots: &[Option<T>], rank: Rank) -> usize
     ensures is { length (held (take result slots.now)) ≡ place_of T.Ranked.place rank (held slots.now) }
     ensures within { result ≤ length slots.now }
 {
-    let mut from = 0;
-    for (i, s) in slots.iter().enumerate() {
-        if let Some(y) = *s {
-            if rank.before(y.rank()) {
-                return middle(from, i);
-            }
-            from = i + 1;
-        }
-    }
-    middle(from, slots.len())
+    let to = end_of(slots, rank);
+    let free = free_behind(&slots[..to]);
+    to - free / 2
 }
 
-fn middle(from: usize, to: usize) -> usize
-    requires { from ≤ to }
-    ensures { (from ≤ result) × (result ≤ to) }
+// The slot of the first record that a rank is before, or the end.
+fn end_of<T: Ranked + Copy>(slots: &[Option<T>], rank: Rank) -> usize
+    ensures is { result ≡ prefix_len (not_behind T.Ranked.place rank) slots.now }
+    ensures within { result ≤ length slots.now }
 {
-    to - (to - from) / 2
+    slots.iter().take_while(|s| not_behind(s, rank)).count()
+}
+
+// Whether a slot is free, or its record is one that a rank is not before.
+fn not_behind<T: Ranked + Copy>(slot: &Option<T>, rank: Rank) -> bool
+    ensures { result ≡ not_behind T.Ranked.place rank slot.now }
+{
+    slot.is_none_or(|y| y.rank() <= rank)
+}
+
+// How many slots are free behind the last record.
+fn free_behind<T: Copy>(slots: &[Option<T>]) -> usize
+    ensures is { result ≡ prefix_len is_none (reverse slots.now) }
+    ensures within { result ≤ length slots.now }
+{
+    slots.iter().rev().take_while(|s| s.is_none()).count()
 }
 
 // The free slot nearest to a gap: one right before the gap is nearest.
@@ -91,13 +80,12 @@ pub fn free_near<T: Copy>(slots: &[Option<T>], gap: usize) -> Option<usize>
     requires { gap ≤ length slots.now }
     ensures { Free slots.now result }
 {
-    for d in 0..slots.len() {
-        if d < gap && slots[gap - 1 - d].is_none() {
-            return Some(gap - 1 - d);
-        }
-        if d < slots.len() - gap && slots[gap + d].is_none() {
-            return Some(gap + d);
-        }
+    let before = slots[..gap].iter().rev().position(|s| s.is_none());
+    let behind = slots[gap..].iter().position(|s| s.is_none());
+    match (before, behind) {
+        (Some(b), Some(d)) if d < b => Some(gap + d),
+        (Some(b), _) => Some(gap - 1 - b),
+        (None, Some(d)) => Some(gap + d),
+        (None, None) => None,
     }
-    None
 }
