@@ -1,5 +1,5 @@
 // The orders of a queue, one after another.
-ghost use Rattle.std.specs.Prelude.{◌≡◌};
+ghost use Rattle.std.specs.Prelude.{◌≡◌, ◌≤◌, length};
 ghost use Rattle.std.specs.List.{slice_get};
 ghost use Rattle.std.specs.Iterator.{YieldsFirst, item_count};
 ghost use Rattle.books.specs.Model.{queued};
@@ -17,9 +17,10 @@ pub struct Walk<'a, B> {
     place: usize,
 }
 
-// The orders of a queue, by rank.
+// The orders of a queue, by rank; a million at most.
 pub fn queued<B: Book>(book: &B, queue: Queue) -> Walk<'_, B>
-    ensures { left B.queues result ≡ queued queue (B.queues book.now) }
+    ensures rest { left B.queues result ≡ queued queue (B.queues book.now) }
+    ensures few { length (queued queue (B.queues book.now)) ≤ 1000000 }
 {
     Walk {
         book,
