@@ -1,10 +1,10 @@
 // Which order or stop a firm names, and whether a client number is held.
 ghost use Rattle.std.specs.Prelude.{◌≡◌};
-ghost use Rattle.std.specs.List.{slice_get};
-ghost use Rattle.venue.specs.Known.{orders_in, is_other, holds, held_in, client_held, client_free, known, standing_in};
+ghost use Rattle.venue.specs.Known.{is_other, holds, held_in, client_held, client_free, known, standing_in};
 
 use books::book::Book;
 use books::queue::{Queue, Record};
+use books::walk::queued;
 use forms::refusal::Refusal;
 use orders::order::Order;
 use orders::side::Side;
@@ -32,30 +32,11 @@ fn does_hold(firm: u16, client: u32, except: Option<u32>, order: Order) -> bool
     order.firm == firm && order.client == client && is_other(except, order.number)
 }
 
-// The order at a place of a queue, that of a stop too.
-fn order_at<B: Book>(book: &B, queue: Queue, place: usize) -> Option<Order>
-    ensures { result ≡ slice_get (orders_in queue (B.queues book.now)) place }
-{
-    match book.look(queue, place) {
-        Some(record) => Some(record.order()),
-        None => None,
-    }
-}
-
 // Whether another record of a queue holds the firm's client number.
 fn held_in<B: Book>(book: &B, firm: u16, client: u32, except: Option<u32>, queue: Queue) -> bool
     ensures { result ≡ held_in firm client except queue (B.queues book.now) }
 {
-    let size = book.size(queue);
-    for place in 0..size.0 {
-        let Some(order) = order_at(book, queue, place) else {
-            return false;
-        };
-        if does_hold(firm, client, except, order) {
-            return true;
-        }
-    }
-    false
+    queued(book, queue).any(|order| does_hold(firm, client, except, order))
 }
 
 fn is_client_held<B: Book>(book: &B, firm: u16, client: u32, except: Option<u32>) -> bool

@@ -1,32 +1,11 @@
-use Rattle.std.proofs.Common.{◌≡◌, ℕ, sym, ap, ◌∙◌, arith}
-use Rattle.std.proofs.lemmas.List.{drop_all}
-use Rattle.venue.specs.Known.{any, holds, orders_in}
-use Rattle.matching.proofs.Walks.{one_more, no_more}
-use Rattle.venue.proofs.Seen.{counted}
+use Rattle.std.proofs.Common.{rules}
+use Rattle.std.proofs.lemmas.Iterator.Search.{any_from_yields_List}
+use Rattle.std.proofs.lemmas.Iterator.Consumers.{YieldsList-from_first}
+use borrow.Author.Tests.{tests}
+use Rattle.books.specs.Model.{queued}
+use Rattle.books.specs.Walk.{left}
+use Rattle.venue.specs.Known.{holds}
 use Rattle.venue.proofs.known.held_in.Goals as goal
 
-pub returns-in_default : goal.returns-in_default
-returns-in_default g c =
-    let l = orders_in c.args.queue (g.B.Book.queues c.args.book.now) in
-    sym (ap (any (holds c.args.firm c.args.client c.args.except)) (no_more l c.loop-place.place (sym c.order_at.ensures ∙ c.in_default.is))) ∙ c.loop-place.invariant
-
-pub returns-then-does_hold : goal.returns-then-does_hold
-returns-then-does_hold g c =
-    let l = orders_in c.args.queue (g.B.Book.queues c.args.book.now) in
-    let p = holds c.args.firm c.args.client c.args.except in
-    let e = ap (any p) (one_more l c.loop-place.place c.in-Some.order (sym c.order_at.ensures ∙ c.in-Some.is)) in
-    sym (e ∙ rw (← c.if-does_hold.ensures)) ∙ c.loop-place.invariant
-
-pub loop-place-preserved : goal.loop-place-preserved
-loop-place-preserved g c =
-    let l = orders_in c.args.queue (g.B.Book.queues c.args.book.now) in
-    let p = holds c.args.firm c.args.client c.args.except in
-    let e = ap (any p) (one_more l c.loop-place.place c.in-Some.order (sym c.order_at.ensures ∙ c.in-Some.is)) in
-    sym (e ∙ rw (← c.if-does_hold.ensures)) ∙ c.loop-place.invariant
-
 pub returns : goal.returns
-returns g c =
-    let q = g.B.Book.queues c.args.book.now in
-    let l = orders_in c.args.queue q in
-    let n : c.size-size.result.0 ≡ _ = ap (λ (p : ℕ × ℕ). p.0) c.size-size.ensures in
-    sym (ap (any (holds c.args.firm c.args.client c.args.except)) (drop_all c.loop-place.place l (omega (arith, n, counted c.args.queue q, c.loop-place-test.false)))) ∙ c.loop-place.invariant
+returns g c = any_from_yields_List (holds c.args.firm c.args.client c.args.except) c.any.new.self _ c.any.result c.any.ensures.ran (YieldsList-from_first (λ y. y) (left g.B.Book.queues) (queued c.args.queue (g.B.Book.queues c.args.book.now)) c.queued.ensures.rest) (λ x b q k. search (rules, tests))
