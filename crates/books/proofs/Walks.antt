@@ -5,7 +5,7 @@ use Rattle.std.proofs.lemmas.List.{length-map, drop_more}
 use Rattle.std.proofs.lemmas.Option.{get_or_from_slice_get, slice_get_within}
 use Rattle.books.specs.declared.queue.Queue.{Queue}
 use Rattle.books.specs.declared.queue.Queue.TheVariants.{Orders, Stops}
-use Rattle.books.specs.Model.{Queues, Bounded, count, queued}
+use Rattle.books.specs.Model.{Queues, Bounded, count, orders_in}
 
 -- a look that tells one
 pub one_more : {X : Type 0} (l : List X) (i : ℕ) (x : X) → slice_get l i ≡ Some x → drop i l ≡ x ∷ drop (i + 1) l
@@ -18,9 +18,9 @@ no_more [] (suc i) e = refl
 no_more (x ∷ l) zero e = let z : ◌≡◌ {A = ℕ} 0 1 = cc in absurd (omega arith)
 no_more (x ∷ l) (suc i) e = no_more l i e
 
-counted : (n : Queue) (q : Queues) → length (queued n q) ≡ count n q
+counted : (n : Queue) (q : Queues) → length (orders_in n q) ≡ count n q
 counted (Orders s) q = refl
 counted (Stops s) q = rw length-map refl
 
-pub few_orders : (n : Queue) (q : Queues) → Bounded q → length (queued n q) ≤ 1000000
+pub few_orders : (n : Queue) (q : Queues) → Bounded q → length (orders_in n q) ≤ 1000000
 few_orders n q b = omega (arith, counted n q, b.within n, b.few n)

@@ -134,9 +134,9 @@ order_of_record (Standing o) = o
 order_of_record (Waiting x) = x.order
 
 -- the orders of a queue, those of stops too
-abbrev pub queued : Queue → Queues → List Order
-queued (Orders s) q = at s q.stands
-queued (Stops s) q = map (λ (x : Stop). x.order) (at s q.waits)
+abbrev pub orders_in : Queue → Queues → List Order
+orders_in (Orders s) q = at s q.stands
+orders_in (Stops s) q = map (λ (x : Stop). x.order) (at s q.waits)
 
 -- the order, or the stop, in what a look tells
 abbrev pub order_in : Option Record → Option Order

@@ -2,7 +2,7 @@
 ghost use Rattle.std.specs.Prelude.{◌≡◌, ◌≤◌, length};
 ghost use Rattle.std.specs.List.{slice_get};
 ghost use Rattle.std.specs.Iterator.{YieldsFirst, item_count};
-ghost use Rattle.books.specs.Model.{queued};
+ghost use Rattle.books.specs.Model.{orders_in};
 ghost use Rattle.books.specs.Walk.{left};
 
 use crate::book::Book;
@@ -18,9 +18,9 @@ pub struct Walk<'a, B> {
 }
 
 // The orders of a queue, by rank; a million at most.
-pub fn queued<B: Book>(book: &B, queue: Queue) -> Walk<'_, B>
-    ensures rest { left B.queues result ≡ queued queue (B.queues book.now) }
-    ensures few { length (queued queue (B.queues book.now)) ≤ 1000000 }
+pub fn orders_in<B: Book>(book: &B, queue: Queue) -> Walk<'_, B>
+    ensures rest { left B.queues result ≡ orders_in queue (B.queues book.now) }
+    ensures few { length (orders_in queue (B.queues book.now)) ≤ 1000000 }
 {
     Walk {
         book,
@@ -31,7 +31,7 @@ pub fn queued<B: Book>(book: &B, queue: Queue) -> Walk<'_, B>
 
 // The order at a place of a queue, that of a stop too.
 fn order_at<B: Book>(book: &B, queue: Queue, place: usize) -> Option<Order>
-    ensures { result ≡ slice_get (queued queue (B.queues book.now)) place }
+    ensures { result ≡ slice_get (orders_in queue (B.queues book.now)) place }
 {
     book.look(queue, place).map(|record| record.order())
 }

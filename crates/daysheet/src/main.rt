@@ -4,7 +4,7 @@
 use books::book::Book;
 use books::lane::Lane;
 use books::queue::Queue;
-use books::walk::queued;
+use books::walk::orders_in;
 use cards::card::FrontCard;
 use desk::row::work_row;
 use desk::whole::admit;
@@ -114,7 +114,7 @@ fn print_reply(rt: &HostRuntime, reply: Reply) -> anyhow::Result<()> {
 
 // The orders that stand on a side, by rank.
 fn print_queue<B: Book>(rt: &HostRuntime, book: &B, side: Side) -> anyhow::Result<()> {
-    for order in queued(book, Queue::Orders(side)) {
+    for order in orders_in(book, Queue::Orders(side)) {
         let order = StandingText(order);
         println!(rt; "{order}")?;
     }

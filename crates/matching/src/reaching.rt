@@ -8,7 +8,7 @@ ghost use Rattle.matching.specs.Reach.{better, own, own_price, counts, open_lots
 
 use books::book::Book;
 use books::queue::Queue;
-use books::walk::{Walk, queued};
+use books::walk::{Walk, orders_in};
 use orders::order::Order;
 use orders::price::Price;
 use orders::side::Side;
@@ -58,7 +58,7 @@ fn opposite<B: Book>(book: &B, order: Order) -> Walk<'_, B>
     ensures told { left B.queues result ≡ at (other order.side) (B.queues book.now).stands }
     ensures few { length (at (other order.side) (B.queues book.now).stands) ≤ 1000000 }
 {
-    queued(book, Queue::Orders(order.side.other()))
+    orders_in(book, Queue::Orders(order.side.other()))
 }
 
 // The price of the first opposite order within the limit that has the incoming investor.

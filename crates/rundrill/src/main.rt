@@ -3,7 +3,7 @@
 
 use books::book::Book;
 use books::queue::Queue;
-use books::walk::queued;
+use books::walk::orders_in;
 use cards::card::FrontCard;
 use forms::form::Form;
 use laws::calls::run;
@@ -38,7 +38,7 @@ fn told<B: Book>(heap: Global, book: &mut B, forms: &[Form]) -> anyhow::Result<S
 }
 
 fn tell_side<B: Book>(text: &mut String, book: &B, side: Side) -> anyhow::Result<()> {
-    for order in queued(book, Queue::Orders(side)) {
+    for order in orders_in(book, Queue::Orders(side)) {
         let standing = StandingText(order);
         writeln!(text, "{standing}")?;
     }

@@ -3,7 +3,7 @@ use crate::case::Case;
 use books::book::Book;
 use books::lane::Lane;
 use books::queue::Queue;
-use books::walk::queued;
+use books::walk::orders_in;
 use cards::card::FrontCard;
 use forms::refusal::Refusal;
 use orders::side::Side;
@@ -62,7 +62,7 @@ fn write_queue<B: Book>(
     book: &B,
     side: Side,
 ) -> Result<(), AllocError> {
-    for order in queued(book, Queue::Orders(side)) {
+    for order in orders_in(book, Queue::Orders(side)) {
         let order = StandingText(order);
         got.push(format!(in heap; "end {order}")?)?;
     }

@@ -7,7 +7,7 @@ use Rattle.books.specs.declared.queue.Queue.{Queue}
 use Rattle.books.specs.declared.queue.Queue.TheVariants.{Orders, Stops}
 use Rattle.books.specs.declared.queue.Record.{Record}
 use Rattle.books.specs.declared.queue.Record.TheVariants.{Standing, Waiting}
-use Rattle.books.specs.Model.{Queues, found, look_at, order_of_record, queued}
+use Rattle.books.specs.Model.{Queues, found, look_at, order_of_record, orders_in}
 use Rattle.forms.specs.declared.refusal.Refusal.{Refusal}
 use Rattle.forms.specs.declared.refusal.Refusal.TheVariants.{UnknownOrder, ClientHeld, ChangeOfStop}
 use Rattle.venue.specs.declared.known.Found.{Found}
@@ -22,7 +22,7 @@ abbrev pub holds : (firm client : ℕ) → Option ℕ → Order → Bool
 holds firm client except o = o.firm == firm && (o.client == client && is_other except o.number)
 
 abbrev pub held_in : (firm client : ℕ) → Option ℕ → Queue → Queues → Bool
-held_in firm client except n q = list_any (holds firm client except) (queued n q)
+held_in firm client except n q = list_any (holds firm client except) (orders_in n q)
 
 abbrev pub client_held : (firm client : ℕ) → Option ℕ → Queues → Bool
 client_held firm client except q =

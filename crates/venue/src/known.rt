@@ -4,7 +4,7 @@ ghost use Rattle.venue.specs.Known.{is_other, holds, held_in, client_held, clien
 
 use books::book::Book;
 use books::queue::{Queue, Record};
-use books::walk::queued;
+use books::walk::orders_in;
 use forms::refusal::Refusal;
 use orders::order::Order;
 use orders::side::Side;
@@ -36,7 +36,7 @@ fn does_hold(firm: u16, client: u32, except: Option<u32>, order: Order) -> bool
 fn held_in<B: Book>(book: &B, firm: u16, client: u32, except: Option<u32>, queue: Queue) -> bool
     ensures { result ≡ held_in firm client except queue (B.queues book.now) }
 {
-    queued(book, queue).any(|order| does_hold(firm, client, except, order))
+    orders_in(book, queue).any(|order| does_hold(firm, client, except, order))
 }
 
 fn is_client_held<B: Book>(book: &B, firm: u16, client: u32, except: Option<u32>) -> bool

@@ -2,10 +2,10 @@ use Rattle.std.proofs.Common.{rules}
 use Rattle.std.proofs.lemmas.Iterator.Search.{any_from_yields_List}
 use Rattle.std.proofs.lemmas.Iterator.Consumers.{YieldsList-from_first}
 use borrow.Author.Tests.{tests}
-use Rattle.books.specs.Model.{queued}
+use Rattle.books.specs.Model.{orders_in}
 use Rattle.books.specs.Walk.{left}
 use Rattle.venue.specs.Known.{holds}
 use Rattle.venue.proofs.known.held_in.Goals as goal
 
 pub returns : goal.returns
-returns g c = any_from_yields_List (holds c.args.firm c.args.client c.args.except) c.any.new.self _ c.any.result c.any.ensures.ran (YieldsList-from_first (λ y. y) (left g.B.Book.queues) (queued c.args.queue (g.B.Book.queues c.args.book.now)) c.queued.ensures.rest) (λ x b q k. search (rules, tests))
+returns g c = any_from_yields_List (holds c.args.firm c.args.client c.args.except) c.any.new.self _ c.any.result c.any.ensures.ran (YieldsList-from_first (λ y. y) (left g.B.Book.queues) (orders_in c.args.queue (g.B.Book.queues c.args.book.now)) c.orders_in.ensures.rest) (λ x b q k. search (rules, tests))
