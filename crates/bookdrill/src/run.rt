@@ -151,6 +151,7 @@ fn listed<B: Book>(
     let (count, room) = book.size(queue);
     let line = format!(in heap; "{} {count} of {room}\n", name(queue))?;
     text.push_str(&line)?;
+    // By place: the drill shows what a look tells, and a stop's order lacks its trigger.
     for at in 0..count {
         let record = shown(heap, book.look(queue, at))?;
         let line = format!(in heap; "{} {record}\n", name(queue))?;

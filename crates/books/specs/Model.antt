@@ -1,5 +1,5 @@
 -- What a book means: four queues of fixed capacity, and what each call answers and leaves.
-use Rattle.std.specs.Prelude.{ℕ, ◌≤◌, Bool, cond, List, [], length, is_some, Some, None, Option, Result, Ok, Err, ⊤, nat_lt, slice_set}
+use Rattle.std.specs.Prelude.{ℕ, ◌≤◌, Bool, cond, List, [], length, map, is_some, Some, None, Option, Result, Ok, Err, ⊤, nat_lt, slice_set}
 use Rattle.std.specs.List.{remove, slice_get}
 use Rattle.std.specs.Option.{option_map, option_or}
 use Rattle.orders.specs.declared.side.Side.{Side}
@@ -132,6 +132,11 @@ rewritten i r q = cond (rewrite_fits i r q) (record_set i r q) q
 abbrev pub order_of_record : Record → Order
 order_of_record (Standing o) = o
 order_of_record (Waiting x) = x.order
+
+-- the orders of a queue, those of stops too
+abbrev pub orders_in : Queue → Queues → List Order
+orders_in (Orders s) q = at s q.stands
+orders_in (Stops s) q = map (λ (x : Stop). x.order) (at s q.waits)
 
 -- the order, or the stop, in what a look tells
 abbrev pub order_in : Option Record → Option Order

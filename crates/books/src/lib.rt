@@ -7,3 +7,4 @@ pub mod lane;
 pub mod lanes;
 pub mod pick;
 pub mod queue;
+pub mod walk;

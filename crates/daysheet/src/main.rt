@@ -3,8 +3,8 @@
 
 use books::book::Book;
 use books::lane::Lane;
-use books::pick::order_in;
 use books::queue::Queue;
+use books::walk::orders_in;
 use cards::card::FrontCard;
 use desk::row::work_row;
 use desk::whole::admit;
@@ -96,11 +96,7 @@ fn print_reply(rt: &HostRuntime, reply: Reply) -> anyhow::Result<()> {
 
 // The orders that stand on a side, by rank.
 fn print_queue<B: Book>(rt: &HostRuntime, book: &B, side: Side) -> anyhow::Result<()> {
-    let size = book.size(Queue::Orders(side));
-    for place in 0..size.0 {
-        let Some(order) = order_in(book.look(Queue::Orders(side), place)) else {
-            return Ok(());
-        };
+    for order in orders_in(book, Queue::Orders(side)) {
         let order = StandingText(order);
         println!(rt; "{order}")?;
     }

@@ -1,14 +1,14 @@
 // Reach: the lots that an incoming order could trade at once.
 ghost use Rattle.std.specs.Prelude.{◌≡◌, ◌*◌, ◌≤◌, length, if◌then◌else◌};
-ghost use Rattle.std.specs.List.{slice_get};
 ghost use Rattle.orders.specs.Prices.{same_price};
 ghost use Rattle.orders.specs.Sides.{other};
 ghost use Rattle.books.specs.Model.{at};
+ghost use Rattle.books.specs.Walk.{left};
 ghost use Rattle.matching.specs.Reach.{better, own, own_price, counts, open_lots, shown_ahead, reach};
 
 use books::book::Book;
-use books::pick::order_in;
 use books::queue::Queue;
+use books::walk::{Walk, orders_in};
 use orders::order::Order;
 use orders::price::Price;
 use orders::side::Side;
@@ -53,35 +53,21 @@ fn shown_at(r: Order, price: Price) -> u32
     if r.price == price { r.shown } else { 0 }
 }
 
-// How many orders stand opposite.
-fn opposite_count<B: Book>(book: &B, order: Order) -> usize
-    ensures told { result ≡ length (at (other order.side) (B.queues book.now).stands) }
-    ensures small { result ≤ 1000000 }
+// The orders that stand opposite.
+fn opposite<B: Book>(book: &B, order: Order) -> Walk<'_, B>
+    ensures told { left B.queues result ≡ at (other order.side) (B.queues book.now).stands }
+    ensures few { length (at (other order.side) (B.queues book.now).stands) ≤ 1000000 }
 {
-    let size = book.size(Queue::Orders(order.side.other()));
-    size.0
-}
-
-// The opposite order at a place.
-fn opposite_at<B: Book>(book: &B, order: Order, place: usize) -> Option<Order>
-    ensures { result ≡ slice_get (at (other order.side) (B.queues book.now).stands) place }
-{
-    order_in(book.look(Queue::Orders(order.side.other()), place))
+    orders_in(book, Queue::Orders(order.side.other()))
 }
 
 // The price of the first opposite order within the limit that has the incoming investor.
 fn own_price<B: Book>(book: &B, order: Order) -> Option<Price>
     ensures { result ≡ own_price order (at (other order.side) (B.queues book.now).stands) }
 {
-    for place in 0..opposite_count(book, order) {
-        let Some(r) = opposite_at(book, order, place) else {
-            return None;
-        };
-        if is_own(order, r) {
-            return Some(r.price);
-        }
-    }
-    None
+    opposite(book, order)
+        .find(|r| is_own(order, *r))
+        .map(|r| r.price)
 }
 
 // The open lots that count.
@@ -89,14 +75,9 @@ fn open_lots<B: Book>(book: &B, order: Order, price: Option<Price>) -> u64
     ensures small { result ≤ 1000000 * 1000000 }
     ensures told { result ≡ open_lots order price (at (other order.side) (B.queues book.now).stands) }
 {
-    let mut lots: u64 = 0;
-    for place in 0..opposite_count(book, order) {
-        let Some(r) = opposite_at(book, order, place) else {
-            return lots;
-        };
-        lots += u64::from(counted(order, price, r));
-    }
-    lots
+    opposite(book, order)
+        .map(|r| u64::from(counted(order, price, r)))
+        .sum()
 }
 
 // The shown lots at a price ahead of the first opposite order that has the incoming investor.
@@ -104,17 +85,10 @@ fn shown_ahead<B: Book>(book: &B, order: Order, price: Price) -> u64
     ensures small { result ≤ 1000000 * 1000000 }
     ensures told { result ≡ shown_ahead order price (at (other order.side) (B.queues book.now).stands) }
 {
-    let mut lots: u64 = 0;
-    for place in 0..opposite_count(book, order) {
-        let Some(r) = opposite_at(book, order, place) else {
-            return lots;
-        };
-        if is_own(order, r) {
-            return lots;
-        }
-        lots += u64::from(shown_at(r, price));
-    }
-    lots
+    opposite(book, order)
+        .take_while(|r| !is_own(order, *r))
+        .map(|r| u64::from(shown_at(r, price)))
+        .sum()
 }
 
 pub fn reach<B: Book>(book: &B, order: Order) -> u64

@@ -2,8 +2,8 @@
 #![tactic(auto)]
 
 use books::book::Book;
-use books::pick::order_in;
 use books::queue::Queue;
+use books::walk::orders_in;
 use cards::card::FrontCard;
 use forms::form::Form;
 use laws::calls::run;
@@ -38,11 +38,7 @@ fn told<B: Book>(heap: Global, book: &mut B, forms: &[Form]) -> anyhow::Result<S
 }
 
 fn tell_side<B: Book>(text: &mut String, book: &B, side: Side) -> anyhow::Result<()> {
-    let size = book.size(Queue::Orders(side));
-    for place in 0..size.0 {
-        let Some(order) = order_in(book.look(Queue::Orders(side), place)) else {
-            return Ok(());
-        };
+    for order in orders_in(book, Queue::Orders(side)) {
         let standing = StandingText(order);
         writeln!(text, "{standing}")?;
     }

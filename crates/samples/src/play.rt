@@ -2,8 +2,8 @@
 use crate::case::Case;
 use books::book::Book;
 use books::lane::Lane;
-use books::pick::order_in;
 use books::queue::Queue;
+use books::walk::orders_in;
 use cards::card::FrontCard;
 use forms::refusal::Refusal;
 use orders::side::Side;
@@ -62,11 +62,7 @@ fn write_queue<B: Book>(
     book: &B,
     side: Side,
 ) -> Result<(), AllocError> {
-    let size = book.size(Queue::Orders(side));
-    for place in 0..size.0 {
-        let Some(order) = order_in(book.look(Queue::Orders(side), place)) else {
-            return Ok(());
-        };
+    for order in orders_in(book, Queue::Orders(side)) {
         let order = StandingText(order);
         got.push(format!(in heap; "end {order}")?)?;
     }

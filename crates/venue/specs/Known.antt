@@ -1,25 +1,16 @@
 -- Which order or stop a firm names, and whether a client number is held.
-use Rattle.std.specs.Prelude.{ℕ, Bool, true, false, cond, not, ◌&&◌, ◌||◌, List, [], ◌∷◌, map, Some, None, Ok, Err, Option, Result, ◌==◌}
+use Rattle.std.specs.Prelude.{ℕ, Bool, true, cond, not, ◌&&◌, ◌||◌, Some, None, Ok, Err, Option, Result, ◌==◌}
+use Rattle.std.specs.List.{list_any}
 use Rattle.orders.specs.declared.side.Side.TheVariants.{Buy, Sell}
 use Rattle.orders.specs.declared.order.Order.{Order}
-use Rattle.orders.specs.declared.order.Stop.{Stop}
 use Rattle.books.specs.declared.queue.Queue.{Queue}
 use Rattle.books.specs.declared.queue.Queue.TheVariants.{Orders, Stops}
 use Rattle.books.specs.declared.queue.Record.{Record}
 use Rattle.books.specs.declared.queue.Record.TheVariants.{Standing, Waiting}
-use Rattle.books.specs.Model.{Queues, at, found, look_at, order_of_record}
+use Rattle.books.specs.Model.{Queues, found, look_at, order_of_record, orders_in}
 use Rattle.forms.specs.declared.refusal.Refusal.{Refusal}
 use Rattle.forms.specs.declared.refusal.Refusal.TheVariants.{UnknownOrder, ClientHeld, ChangeOfStop}
 use Rattle.venue.specs.declared.known.Found.{Found}
-
--- the orders of a queue, those of stops too
-abbrev pub orders_in : Queue → Queues → List Order
-orders_in (Orders s) q = at s q.stands
-orders_in (Stops s) q = map (λ (x : Stop). x.order) (at s q.waits)
-
-abbrev pub any : {X : Type 0} → (X → Bool) → List X → Bool
-any p [] = false
-any p (x ∷ l) = p x || any p l
 
 -- an order that may hold the client number itself
 abbrev pub is_other : Option ℕ → ℕ → Bool
@@ -31,7 +22,7 @@ abbrev pub holds : (firm client : ℕ) → Option ℕ → Order → Bool
 holds firm client except o = o.firm == firm && (o.client == client && is_other except o.number)
 
 abbrev pub held_in : (firm client : ℕ) → Option ℕ → Queue → Queues → Bool
-held_in firm client except n q = any (holds firm client except) (orders_in n q)
+held_in firm client except n q = list_any (holds firm client except) (orders_in n q)
 
 abbrev pub client_held : (firm client : ℕ) → Option ℕ → Queues → Bool
 client_held firm client except q =

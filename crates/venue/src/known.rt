@@ -1,10 +1,10 @@
 // Which order or stop a firm names, and whether a client number is held.
 ghost use Rattle.std.specs.Prelude.{◌≡◌};
-ghost use Rattle.std.specs.List.{slice_get};
-ghost use Rattle.venue.specs.Known.{orders_in, holds, held_in, client_held, client_free, known, standing_in};
+ghost use Rattle.venue.specs.Known.{holds, held_in, client_held, client_free, known, standing_in};
 
 use books::book::Book;
 use books::queue::{Queue, Record};
+use books::walk::orders_in;
 use forms::refusal::Refusal;
 use orders::order::Order;
 use orders::side::Side;
@@ -25,13 +25,6 @@ pub struct Claim {
     pub except: Option<u32>,
 }
 
-// The order at a place of a queue, that of a stop too.
-fn order_at<B: Book>(book: &B, queue: Queue, place: usize) -> Option<Order>
-    ensures { result ≡ slice_get (orders_in queue (B.queues book.now)) place }
-{
-    book.look(queue, place).map(Record::order)
-}
-
 impl Claim {
     fn is_held_by(self, order: Order) -> bool
         ensures { result ≡ holds self.firm self.client self.except order }
@@ -45,16 +38,7 @@ impl Claim {
     fn is_held_in<B: Book>(self, book: &B, queue: Queue) -> bool
         ensures { result ≡ held_in self.firm self.client self.except queue (B.queues book.now) }
     {
-        let (count, _) = book.size(queue);
-        for place in 0..count {
-            let Some(order) = order_at(book, queue, place) else {
-                return false;
-            };
-            if self.is_held_by(order) {
-                return true;
-            }
-        }
-        false
+        orders_in(book, queue).any(|order| self.is_held_by(order))
     }
 
     fn is_held<B: Book>(self, book: &B) -> bool

@@ -10,9 +10,9 @@ returns-then-fits-clause-left g c =
     let xs = (g.L.Lane.run c.args.lane.now).rows in
     let back : k.item c.lay-x.result ≡ c.args.i = ap k.item c.lay-x.ensures ∙ g.met.T.Kept.back c.args.i in
     let left : map k.item (g.L.Lane.run c.replace.new.self).rows ≡ slice_set (map k.item xs) c.args.at c.args.i =
-      ap (map k.item) c.replace.ensures.left
-      ∙ map-set k.item xs c.args.at c.lay-x.result
-      ∙ ap (slice_set (map k.item xs) c.args.at) back in
+    ap (map k.item) c.replace.ensures.left
+    ∙ map-set k.item xs c.args.at c.lay-x.result
+    ∙ ap (slice_set (map k.item xs) c.args.at) back in
     search rules
 
 pub returns-else-fits-clause-told : goal.returns-else-fits-clause-told

@@ -1,32 +1,28 @@
-use Rattle.std.proofs.Common.{sym, ap, ◌∙◌, arith}
-use Rattle.std.proofs.lemmas.List.{drop_all}
-use Rattle.std.proofs.lemmas.Bool.{cond-true, cond-false}
+use Rattle.std.proofs.Common.{◌≡◌, rules, ◌∙◌, arith}
+use Rattle.std.specs.List.{sum_by, take_while}
+use Rattle.std.proofs.lemmas.Iterator.{YieldsList-from_map}
+use Rattle.std.proofs.lemmas.Iterator.Consumers.{YieldsList-at, YieldsList-from_first, sum_by_from_yields_List, fits_by_from_yields_list}
+use Rattle.std.proofs.lemmas.Iterator.Search.{YieldsList-from_take_while}
+use borrow.Author.Tests.{tests}
 use Rattle.orders.specs.Sides.{other}
 use Rattle.books.specs.Model.{at}
-use Rattle.orders.specs.Prices.{same_price}
-use Rattle.matching.specs.Reach.{shown_ahead}
-use Rattle.matching.proofs.Walks.{one_more, no_more, cond_most}
+use Rattle.books.specs.Walk.{left}
+use Rattle.matching.proofs.Walks.{not_own, shown_of, shown_few, shown_summed, sum_few, ahead_few}
 use Rattle.matching.proofs.reaching.shown_ahead.Goals as goal
 
-pub returns-in_default : goal.returns-in_default
-returns-in_default g c =
-    let e = ap (shown_ahead c.args.order c.args.price) (no_more (at (other c.args.order.side) (g.B.Book.queues c.args.book.now).stands) c.loop-place.place (sym c.opposite_at.ensures ∙ c.in_default.is)) in
-    record { small = omega arith; told = omega arith }
-
-pub returns-then-is_own : goal.returns-then-is_own
-returns-then-is_own g c =
-    let e = ap (shown_ahead c.args.order c.args.price) (one_more (at (other c.args.order.side) (g.B.Book.queues c.args.book.now).stands) c.loop-place.place c.in-Some.r (sym c.opposite_at.ensures ∙ c.in-Some.is)) in
-    let z = e ∙ cond-true _ _ _ (sym c.if-is_own.ensures) in
-    record { small = omega arith; told = omega arith }
-
-pub loop-place-preserved : goal.loop-place-preserved
-loop-place-preserved g c =
-    let e = ap (shown_ahead c.args.order c.args.price) (one_more (at (other c.args.order.side) (g.B.Book.queues c.args.book.now).stands) c.loop-place.place c.in-Some.r (sym c.opposite_at.ensures ∙ c.in-Some.is)) in
-    let z = e ∙ cond-false _ _ _ (sym c.if-is_own.ensures) in
-    let k = cond_most (same_price c.in-Some.r.price c.args.price) c.in-Some.r.shown 1000000 (omega arith) in
-    (omega arith, omega arith)
+pub sum-requires-clause-fits : goal.sum-requires-clause-fits
+sum-requires-clause-fits g c =
+    let f = shown_of c.args.price in
+    let l = at (other c.args.order.side) (g.B.Book.queues c.args.book.now).stands in
+    let a = take_while (not_own c.args.order) l in
+    let few = sum_few f (shown_few c.args.price) a (ahead_few c.args.order l c.opposite.ensures.few) in
+    fits_by_from_yields_list f a c.map.result _ (YieldsList-from_map _ f (YieldsList-at c.map.ensures.source (YieldsList-from_take_while _ (not_own c.args.order) (YieldsList-at c.take_while.ensures.source (YieldsList-from_first (λ y. y) (left g.B.Book.queues) l c.opposite.ensures.told)) c.take_while.ensures.closure c.take_while.ensures.done (λ x r q k. search (rules, tests)))) c.map.ensures.closure (λ x r q k. search (rules, tests))) (omega arith)
 
 pub returns : goal.returns
 returns g c =
-    let e = ap (shown_ahead c.args.order c.args.price) (drop_all c.loop-place.place (at (other c.args.order.side) (g.B.Book.queues c.args.book.now).stands) (omega (arith, c.opposite_count-place-end.ensures.told))) in
-    record { small = omega arith; told = omega arith }
+    let f = shown_of c.args.price in
+    let l = at (other c.args.order.side) (g.B.Book.queues c.args.book.now).stands in
+    let a = take_while (not_own c.args.order) l in
+    let few = sum_few f (shown_few c.args.price) a (ahead_few c.args.order l c.opposite.ensures.few) in
+    let e : c.sum.result ≡ sum_by f a = sum_by_from_yields_List f a c.map.result _ c.sum.ensures.ran (YieldsList-from_map _ f (YieldsList-at c.map.ensures.source (YieldsList-from_take_while _ (not_own c.args.order) (YieldsList-at c.take_while.ensures.source (YieldsList-from_first (λ y. y) (left g.B.Book.queues) l c.opposite.ensures.told)) c.take_while.ensures.closure c.take_while.ensures.done (λ x r q k. search (rules, tests)))) c.map.ensures.closure (λ x r q k. search (rules, tests))) in
+    record { small = omega arith; told = e ∙ shown_summed c.args.order c.args.price l }
