@@ -1,12 +1,14 @@
 // What a cell reads as, and when it is out of range.
-ghost use Rattle.std.specs.Prelude.{◌≡◌, ◌≤◌, IfOk};
+ghost use Rattle.std.specs.Prelude.{◌≡◌};
 ghost use Rattle.std.specs.Option.{ok_or};
+ghost use Rattle.std.specs.Result.{result_ok};
 ghost use Rattle.forms.specs.declared.refusal.Refusal.TheVariants.{WrongBlank};
-ghost use Rattle.checks.specs.Cells.{number_in, firm_in, label_in, lots_in, investor_in, tag_in, side_in, validity_in, type_of, price_in, if_filled};
+ghost use Rattle.checks.specs.Cells.{and_then, in_range, number_in, side_in, validity_in, type_of, price_in, if_filled};
 
 use forms::refusal::Refusal;
 use orders::price::Price;
 use orders::side::{Side, Validity};
+use std::num::TryFromIntError;
 
 // The order types: 2, 4 and K.
 #[derive(Clone, Copy, Debug, PartialEq, Eq)]
@@ -16,57 +18,47 @@ pub enum OrderType {
     Market,
 }
 
+// The lowest and the highest number that a cell takes.
+#[derive(Clone, Copy)]
+pub(crate) struct Bounds(u64, u64);
+
+pub(crate) const FIRMS: Bounds = Bounds(1, 65_535);
+
+pub(crate) const DAYS: Bounds = Bounds(1, 65_535);
+
+// Client numbers and order numbers.
+pub(crate) const LABELS: Bounds = Bounds(1, 999_999_999);
+
+pub(crate) const LOTS: Bounds = Bounds(1, 1_000_000);
+
+pub(crate) const LOTS_OR_NONE: Bounds = Bounds(0, 1_000_000);
+
+pub(crate) const INVESTORS: Bounds = Bounds(0, 999_999_999_999);
+
+pub(crate) const TAGS: Bounds = Bounds(0, 255);
+
+impl Bounds {
+    // The number as the type that is wanted, if it is within the bounds.
+    pub(crate) fn read<T: Drop + TryFrom<u64, Error = TryFromIntError>>(
+        self,
+        at: u8,
+        value: u64,
+    ) -> Result<T, Refusal>
+        ensures { (r : _) × T.try_from_gives value r × (result ≡ and_then (number_in self.0 self.1 at value) (λ v. in_range at (result_ok r))) }
+    {
+        let Bounds(low, high) = self;
+        match T::try_from(value) {
+            Ok(number) if (low..=high).contains(&value) => Ok(number),
+            _ => Err(Refusal::OutOfRange { cell: at }),
+        }
+    }
+}
+
 // A cell that must not be blank.
 pub(crate) fn filled<C>(at: u8, cell: Option<C>) -> Result<C, Refusal>
     ensures { result ≡ ok_or cell (WrongBlank at) }
 {
     cell.ok_or(Refusal::WrongBlank { cell: at })
-}
-
-// The number, if it is from low to high.
-fn number_in(low: u64, high: u64, at: u8, value: u64) -> Result<u64, Refusal>
-    ensures told { result ≡ number_in low high at value }
-    ensures within { IfOk result (λ v. v ≤ high) }
-{
-    if (low..=high).contains(&value) {
-        Ok(value)
-    } else {
-        Err(Refusal::OutOfRange { cell: at })
-    }
-}
-
-// One for each kind of number: with one generic over `T: TryFrom<u64>` the proof did not close.
-
-// A firm or a day.
-pub(crate) fn firm_or_day_in(at: u8, value: u64) -> Result<u16, Refusal>
-    ensures { result ≡ firm_in at value }
-{
-    Ok(number_in(1, 65_535, at, value)? as u16)
-}
-
-// A client number or an order number.
-pub fn label_in(at: u8, value: u64) -> Result<u32, Refusal>
-    ensures { result ≡ label_in at value }
-{
-    Ok(number_in(1, 999_999_999, at, value)? as u32)
-}
-
-pub fn lots_in(low: u64, at: u8, value: u64) -> Result<u32, Refusal>
-    ensures { result ≡ lots_in low at value }
-{
-    Ok(number_in(low, 1_000_000, at, value)? as u32)
-}
-
-pub fn investor_in(at: u8, value: u64) -> Result<u64, Refusal>
-    ensures { result ≡ investor_in at value }
-{
-    number_in(0, 999_999_999_999, at, value)
-}
-
-pub fn tag_in(at: u8, value: u64) -> Result<u8, Refusal>
-    ensures { result ≡ tag_in at value }
-{
-    Ok(number_in(0, 255, at, value)? as u8)
 }
 
 // By hand, not TryFrom: Side and Validity are of another crate, and the refusal names the cell.

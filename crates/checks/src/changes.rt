@@ -2,7 +2,7 @@
 ghost use Rattle.std.specs.Prelude.{◌≡◌};
 ghost use Rattle.checks.specs.Changes.{read_change};
 
-use crate::cells::{filled, firm_or_day_in, label_in, lots_in, price_if_filled, validity_in};
+use crate::cells::{FIRMS, LABELS, LOTS, LOTS_OR_NONE, filled, price_if_filled, validity_in};
 use forms::form::ChangeForm;
 use forms::refusal::Refusal;
 use matching::change::Change;
@@ -22,12 +22,12 @@ pub fn read_change(form: ChangeForm) -> Result<ChangeAsked, Refusal>
     let firm = filled(1, form.firm)?;
     let client = filled(2, form.client)?;
     let number = filled(3, form.number)?;
-    let firm = firm_or_day_in(1, firm)?;
-    let client = label_in(2, client)?;
-    let number = label_in(3, number)?;
+    let firm = FIRMS.read(1, firm)?;
+    let client = LABELS.read(2, client)?;
+    let number = LABELS.read(3, number)?;
     let price = price_if_filled(4, form.price)?;
-    let quantity = form.quantity.map(|n| lots_in(1, 5, n)).transpose()?;
-    let disclosed = form.disclosed.map(|n| lots_in(0, 6, n)).transpose()?;
+    let quantity = form.quantity.map(|n| LOTS.read(5, n)).transpose()?;
+    let disclosed = form.disclosed.map(|n| LOTS_OR_NONE.read(6, n)).transpose()?;
     let validity = form.validity.map(|n| validity_in(7, n)).transpose()?;
     if validity.is_some_and(|v| v.is_fleeting()) {
         return Err(Refusal::Barred);

@@ -4,8 +4,8 @@ ghost use Rattle.checks.specs.Cells.{blanks_first};
 ghost use Rattle.checks.specs.Entries.{price_wrong, trigger_wrong, type_in_cell, wrong_blank, kind_of, typed_entry, read_entry};
 
 use crate::cells::{
-    OrderType, filled, firm_or_day_in, investor_in, label_in, lots_in, price_if_filled, side_in,
-    tag_in, type_of, validity_in,
+    FIRMS, INVESTORS, LABELS, LOTS, LOTS_OR_NONE, OrderType, TAGS, filled, price_if_filled,
+    side_in, type_of, validity_in,
 };
 use crate::combos::is_barred;
 use forms::form::EntryForm;
@@ -74,18 +74,18 @@ fn kind_of(kind: OrderType, price: Option<Price>, trigger: Option<Price>) -> Res
 fn typed_entry(form: EntryForm) -> Result<Asked, Refusal>
     ensures { result ≡ typed_entry form }
 {
-    let firm = firm_or_day_in(1, form.firm.unwrap_or(0))?;
-    let client = label_in(2, form.client.unwrap_or(0))?;
+    let firm = FIRMS.read(1, form.firm.unwrap_or(0))?;
+    let client = LABELS.read(2, form.client.unwrap_or(0))?;
     let side = side_in(3, form.side.unwrap_or(0))?;
     let kind = type_in_cell(form.kind).ok_or(Refusal::OutOfRange { cell: 4 })?;
     let validity = validity_in(5, form.validity.unwrap_or(0))?;
     let price = price_if_filled(6, form.price)?;
     let trigger = price_if_filled(7, form.trigger)?;
-    let quantity = lots_in(1, 8, form.quantity.unwrap_or(0))?;
-    let disclosed = lots_in(0, 9, form.disclosed.unwrap_or(0))?;
-    let minimum = lots_in(0, 10, form.minimum.unwrap_or(0))?;
-    let investor = investor_in(11, form.investor.unwrap_or(0))?;
-    let tag = tag_in(12, form.tag.unwrap_or(0))?;
+    let quantity = LOTS.read(8, form.quantity.unwrap_or(0))?;
+    let disclosed = LOTS_OR_NONE.read(9, form.disclosed.unwrap_or(0))?;
+    let minimum = LOTS_OR_NONE.read(10, form.minimum.unwrap_or(0))?;
+    let investor = INVESTORS.read(11, form.investor.unwrap_or(0))?;
+    let tag = TAGS.read(12, form.tag.unwrap_or(0))?;
     let kind = kind_of(kind, price, trigger)?;
     Ok(Asked {
         firm,

@@ -2,7 +2,7 @@
 ghost use Rattle.std.specs.Prelude.{◌≡◌};
 ghost use Rattle.checks.specs.Removals.{read_cancel, read_mass_cancel, read_opening};
 
-use crate::cells::{filled, firm_or_day_in, investor_in, label_in, side_in, tag_in};
+use crate::cells::{DAYS, FIRMS, INVESTORS, LABELS, TAGS, filled, side_in};
 use forms::form::{CancelForm, MassCancelForm, OpeningForm};
 use forms::refusal::Refusal;
 use matching::pick::Wanted;
@@ -19,18 +19,18 @@ pub fn read_cancel(form: CancelForm) -> Result<CancelAsked, Refusal>
 {
     let firm = filled(1, form.firm)?;
     let number = filled(2, form.number)?;
-    let firm = firm_or_day_in(1, firm)?;
-    let number = label_in(2, number)?;
+    let firm = FIRMS.read(1, firm)?;
+    let number = LABELS.read(2, number)?;
     Ok(CancelAsked { firm, number })
 }
 
 pub fn read_mass_cancel(form: MassCancelForm) -> Result<Wanted, Refusal>
     ensures { result ≡ read_mass_cancel form }
 {
-    let firm = firm_or_day_in(1, filled(1, form.firm)?)?;
+    let firm = FIRMS.read(1, filled(1, form.firm)?)?;
     let side = form.side.map(|n| side_in(2, n)).transpose()?;
-    let tag = form.tag.map(|n| tag_in(3, n)).transpose()?;
-    let investor = form.investor.map(|n| investor_in(4, n)).transpose()?;
+    let tag = form.tag.map(|n| TAGS.read(3, n)).transpose()?;
+    let investor = form.investor.map(|n| INVESTORS.read(4, n)).transpose()?;
     Ok(Wanted {
         firm,
         side,
@@ -43,5 +43,5 @@ pub fn read_mass_cancel(form: MassCancelForm) -> Result<Wanted, Refusal>
 pub fn read_opening(form: OpeningForm) -> Result<u16, Refusal>
     ensures { result ≡ read_opening form }
 {
-    firm_or_day_in(1, filled(1, form.day)?)
+    DAYS.read(1, filled(1, form.day)?)
 }
