@@ -1,72 +1,67 @@
 // What a cell reads as, and when it is out of range.
-ghost use Rattle.std.specs.Prelude.{◌≡◌, ℕ, ◌≤◌, IfOk};
-ghost use Rattle.std.specs.Option.{unwrap_or};
-ghost use Rattle.checks.specs.Cells.{number_in, firm_in, day_in, label_in, lots_in, investor_in, tag_in, side_of, side_in, validity_of, validity_in, type_of, price_in, if_filled};
+ghost use Rattle.std.specs.Prelude.{◌≡◌};
+ghost use Rattle.std.specs.Option.{ok_or};
+ghost use Rattle.std.specs.Result.{result_ok};
+ghost use Rattle.forms.specs.declared.refusal.Refusal.TheVariants.{WrongBlank};
+ghost use Rattle.checks.specs.Cells.{and_then, in_range, number_in, side_in, validity_in, type_of, price_in, if_filled};
 
 use forms::refusal::Refusal;
 use orders::price::Price;
 use orders::side::{Side, Validity};
+use std::num::TryFromIntError;
 
 // The order types: 2, 4 and K.
-#[derive(Clone, Copy)]
+#[derive(Clone, Copy, Debug, PartialEq, Eq)]
 pub enum OrderType {
     Limit,
     StopLimit,
     Market,
 }
 
-fn number_in(low: u64, high: u64, at: u8, value: u64) -> Result<u64, Refusal>
-    ensures told { result ≡ number_in low high at value }
-    ensures within { IfOk result (λ v. v ≤ high) }
-{
-    if low <= value && value <= high {
-        Ok(value)
-    } else {
-        Err(Refusal::OutOfRange { cell: at })
+// The lowest and the highest number that a cell takes.
+#[derive(Clone, Copy)]
+pub(crate) struct Bounds(u64, u64);
+
+pub(crate) const FIRMS: Bounds = Bounds(1, 65_535);
+
+pub(crate) const DAYS: Bounds = Bounds(1, 65_535);
+
+// Client numbers and order numbers.
+pub(crate) const LABELS: Bounds = Bounds(1, 999_999_999);
+
+pub(crate) const LOTS: Bounds = Bounds(1, 1_000_000);
+
+pub(crate) const LOTS_OR_NONE: Bounds = Bounds(0, 1_000_000);
+
+pub(crate) const INVESTORS: Bounds = Bounds(0, 999_999_999_999);
+
+pub(crate) const TAGS: Bounds = Bounds(0, 255);
+
+impl Bounds {
+    // The number as the type that is wanted, if it is within the bounds.
+    pub(crate) fn read<T: Drop + TryFrom<u64, Error = TryFromIntError>>(
+        self,
+        at: u8,
+        value: u64,
+    ) -> Result<T, Refusal>
+        ensures { (r : _) × T.try_from_gives value r × (result ≡ and_then (number_in self.0 self.1 at value) (λ v. in_range at (result_ok r))) }
+    {
+        let Bounds(low, high) = self;
+        match T::try_from(value) {
+            Ok(number) if (low..=high).contains(&value) => Ok(number),
+            _ => Err(Refusal::OutOfRange { cell: at }),
+        }
     }
 }
 
-pub fn firm_in(at: u8, value: u64) -> Result<u16, Refusal>
-    ensures { result ≡ firm_in at value }
+// A cell that must not be blank.
+pub(crate) fn filled<C>(at: u8, cell: Option<C>) -> Result<C, Refusal>
+    ensures { result ≡ ok_or cell (WrongBlank at) }
 {
-    let firm = number_in(1, 65_535, at, value)?;
-    Ok(firm as u16)
+    cell.ok_or(Refusal::WrongBlank { cell: at })
 }
 
-pub fn day_in(at: u8, value: u64) -> Result<u16, Refusal>
-    ensures { result ≡ day_in at value }
-{
-    let day = number_in(1, 65_535, at, value)?;
-    Ok(day as u16)
-}
-
-// A client number or an order number.
-pub fn label_in(at: u8, value: u64) -> Result<u32, Refusal>
-    ensures { result ≡ label_in at value }
-{
-    let label = number_in(1, 999_999_999, at, value)?;
-    Ok(label as u32)
-}
-
-pub fn lots_in(low: u64, at: u8, value: u64) -> Result<u32, Refusal>
-    ensures { result ≡ lots_in low at value }
-{
-    let lots = number_in(low, 1_000_000, at, value)?;
-    Ok(lots as u32)
-}
-
-pub fn investor_in(at: u8, value: u64) -> Result<u64, Refusal>
-    ensures { result ≡ investor_in at value }
-{
-    number_in(0, 999_999_999_999, at, value)
-}
-
-pub fn tag_in(at: u8, value: u64) -> Result<u8, Refusal>
-    ensures { result ≡ tag_in at value }
-{
-    let tag = number_in(0, 255, at, value)?;
-    Ok(tag as u8)
-}
+// By hand, not TryFrom: Side and Validity are of another crate, and the refusal names the cell.
 
 pub fn side_in(at: u8, value: u64) -> Result<Side, Refusal>
     ensures { result ≡ side_in at value }
@@ -90,6 +85,7 @@ pub fn validity_in(at: u8, value: u64) -> Result<Validity, Refusal>
     }
 }
 
+// An Option, not TryFrom: an error type of its own would say no more.
 pub fn type_of(byte: u8) -> Option<OrderType>
     ensures { result ≡ type_of byte }
 {
@@ -101,68 +97,12 @@ pub fn type_of(byte: u8) -> Option<OrderType>
     }
 }
 
-pub fn price_in(at: u8, price: Price) -> Result<Price, Refusal>
-    ensures { result ≡ price_in at price }
-{
-    if price.is_listed() {
-        Ok(price)
-    } else {
-        Err(Refusal::OutOfRange { cell: at })
-    }
-}
-
-// The same of cells that may be blank.
-
+// A price, which may be blank in every form.
 pub fn price_if_filled(at: u8, cell: Option<Price>) -> Result<Option<Price>, Refusal>
     ensures { result ≡ if_filled (price_in at) cell }
 {
-    let Some(price) = cell else {
-        return Ok(None);
-    };
-    Ok(Some(price_in(at, price)?))
-}
-
-pub fn lots_if_filled(low: u64, at: u8, cell: Option<u64>) -> Result<Option<u32>, Refusal>
-    ensures { result ≡ if_filled (lots_in low at) cell }
-{
-    let Some(lots) = cell else {
-        return Ok(None);
-    };
-    Ok(Some(lots_in(low, at, lots)?))
-}
-
-pub fn validity_if_filled(at: u8, cell: Option<u64>) -> Result<Option<Validity>, Refusal>
-    ensures { result ≡ if_filled (validity_in at) cell }
-{
-    let Some(validity) = cell else {
-        return Ok(None);
-    };
-    Ok(Some(validity_in(at, validity)?))
-}
-
-pub fn side_if_filled(at: u8, cell: Option<u64>) -> Result<Option<Side>, Refusal>
-    ensures { result ≡ if_filled (side_in at) cell }
-{
-    let Some(side) = cell else {
-        return Ok(None);
-    };
-    Ok(Some(side_in(at, side)?))
-}
-
-pub fn tag_if_filled(at: u8, cell: Option<u64>) -> Result<Option<u8>, Refusal>
-    ensures { result ≡ if_filled (tag_in at) cell }
-{
-    let Some(tag) = cell else {
-        return Ok(None);
-    };
-    Ok(Some(tag_in(at, tag)?))
-}
-
-pub fn investor_if_filled(at: u8, cell: Option<u64>) -> Result<Option<u64>, Refusal>
-    ensures { result ≡ if_filled (investor_in at) cell }
-{
-    let Some(investor) = cell else {
-        return Ok(None);
-    };
-    Ok(Some(investor_in(at, investor)?))
+    match cell {
+        Some(price) if !price.is_listed() => Err(Refusal::OutOfRange { cell: at }),
+        _ => Ok(cell),
+    }
 }

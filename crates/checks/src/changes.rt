@@ -1,8 +1,8 @@
 // The form of a change.
 ghost use Rattle.std.specs.Prelude.{◌≡◌};
-ghost use Rattle.checks.specs.Changes.{wrong_change_blank, typed_change, read_change};
+ghost use Rattle.checks.specs.Changes.{read_change};
 
-use crate::cells::{firm_in, label_in, lots_if_filled, price_if_filled, validity_if_filled};
+use crate::cells::{FIRMS, LABELS, LOTS, LOTS_OR_NONE, filled, price_if_filled, validity_in};
 use forms::form::ChangeForm;
 use forms::refusal::Refusal;
 use matching::change::Change;
@@ -15,31 +15,23 @@ pub struct ChangeAsked {
     pub change: Change,
 }
 
-fn wrong_change_blank(form: ChangeForm) -> Option<u8>
-    ensures { result ≡ wrong_change_blank form }
+// What the form asks for, or why it is refused.
+pub fn read_change(form: ChangeForm) -> Result<ChangeAsked, Refusal>
+    ensures { result ≡ read_change form }
 {
-    if form.firm.is_none() {
-        return Some(1);
-    }
-    if form.client.is_none() {
-        return Some(2);
-    }
-    if form.number.is_none() {
-        return Some(3);
-    }
-    None
-}
-
-fn typed_change(form: ChangeForm) -> Result<ChangeAsked, Refusal>
-    ensures { result ≡ typed_change form }
-{
-    let firm = firm_in(1, form.firm.unwrap_or(0))?;
-    let client = label_in(2, form.client.unwrap_or(0))?;
-    let number = label_in(3, form.number.unwrap_or(0))?;
+    let firm = filled(1, form.firm)?;
+    let client = filled(2, form.client)?;
+    let number = filled(3, form.number)?;
+    let firm = FIRMS.read(1, firm)?;
+    let client = LABELS.read(2, client)?;
+    let number = LABELS.read(3, number)?;
     let price = price_if_filled(4, form.price)?;
-    let quantity = lots_if_filled(1, 5, form.quantity)?;
-    let disclosed = lots_if_filled(0, 6, form.disclosed)?;
-    let validity = validity_if_filled(7, form.validity)?;
+    let quantity = form.quantity.map(|n| LOTS.read(5, n)).transpose()?;
+    let disclosed = form.disclosed.map(|n| LOTS_OR_NONE.read(6, n)).transpose()?;
+    let validity = form.validity.map(|n| validity_in(7, n)).transpose()?;
+    if validity.is_some_and(|v| v.is_fleeting()) {
+        return Err(Refusal::Barred);
+    }
     Ok(ChangeAsked {
         firm,
         number,
@@ -51,20 +43,4 @@ fn typed_change(form: ChangeForm) -> Result<ChangeAsked, Refusal>
             validity,
         },
     })
-}
-
-// What the form asks for, or why it is refused.
-pub fn read_change(form: ChangeForm) -> Result<ChangeAsked, Refusal>
-    ensures { result ≡ read_change form }
-{
-    if let Some(cell) = wrong_change_blank(form) {
-        return Err(Refusal::WrongBlank { cell });
-    }
-    let asked = typed_change(form)?;
-    if let Some(validity) = asked.change.validity
-        && validity.is_fleeting()
-    {
-        return Err(Refusal::Barred);
-    }
-    Ok(asked)
 }

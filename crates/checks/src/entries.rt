@@ -1,11 +1,11 @@
 // The form of an entry.
-ghost use Rattle.std.specs.Prelude.{◌≡◌};
-ghost use Rattle.checks.specs.Cells.{in_range};
+ghost use Rattle.std.specs.Prelude.{◌≡◌, false, Some, Ok};
+ghost use Rattle.checks.specs.Cells.{blanks_first};
 ghost use Rattle.checks.specs.Entries.{price_wrong, trigger_wrong, type_in_cell, wrong_blank, kind_of, typed_entry, read_entry};
 
 use crate::cells::{
-    OrderType, firm_in, investor_in, label_in, lots_in, price_if_filled, side_in, tag_in, type_of,
-    validity_in,
+    FIRMS, INVESTORS, LABELS, LOTS, LOTS_OR_NONE, OrderType, TAGS, filled, price_if_filled,
+    side_in, type_of, validity_in,
 };
 use crate::combos::is_barred;
 use forms::form::EntryForm;
@@ -13,25 +13,19 @@ use forms::refusal::Refusal;
 use matching::asked::{Asked, Kind};
 use orders::price::Price;
 
-// Price is filled exactly with a limit order and a stop.
-fn is_price_wrong(kind: Option<OrderType>, filled: bool) -> bool
-    ensures { result ≡ price_wrong kind filled }
-{
-    match kind {
-        None => false,
-        Some(OrderType::Limit | OrderType::StopLimit) => !filled,
-        Some(OrderType::Market) => filled,
+impl OrderType {
+    // Price is filled exactly with a limit order and a stop.
+    fn has_price(self) -> bool
+        ensures { result ≡ price_wrong (Some self) false }
+    {
+        self != OrderType::Market
     }
-}
 
-// Trigger is filled exactly with a stop.
-fn is_trigger_wrong(kind: Option<OrderType>, filled: bool) -> bool
-    ensures { result ≡ trigger_wrong kind filled }
-{
-    match kind {
-        None => false,
-        Some(OrderType::StopLimit) => !filled,
-        Some(OrderType::Limit | OrderType::Market) => filled,
+    // Trigger is filled exactly with a stop.
+    fn has_trigger(self) -> bool
+        ensures { result ≡ trigger_wrong (Some self) false }
+    {
+        self == OrderType::StopLimit
     }
 }
 
@@ -41,36 +35,24 @@ fn type_in_cell(cell: Option<u8>) -> Option<OrderType>
     type_of(cell?)
 }
 
-// The first cell that is blank against the rules, or filled.
-fn wrong_blank(form: EntryForm) -> Option<u8>
-    ensures { result ≡ wrong_blank form }
+// Which cells must be filled, and which blank.
+fn check_blanks(form: EntryForm) -> Result<(), Refusal>
+    ensures { result ≡ blanks_first (wrong_blank form) (Ok tt) }
 {
     let kind = type_in_cell(form.kind);
-    if form.firm.is_none() {
-        return Some(1);
+    filled(1, form.firm)?;
+    filled(2, form.client)?;
+    filled(3, form.side)?;
+    filled(4, form.kind)?;
+    filled(5, form.validity)?;
+    if kind.is_some_and(|k| k.has_price() != form.price.is_some()) {
+        return Err(Refusal::WrongBlank { cell: 6 });
     }
-    if form.client.is_none() {
-        return Some(2);
+    if kind.is_some_and(|k| k.has_trigger() != form.trigger.is_some()) {
+        return Err(Refusal::WrongBlank { cell: 7 });
     }
-    if form.side.is_none() {
-        return Some(3);
-    }
-    if form.kind.is_none() {
-        return Some(4);
-    }
-    if form.validity.is_none() {
-        return Some(5);
-    }
-    if is_price_wrong(kind, form.price.is_some()) {
-        return Some(6);
-    }
-    if is_trigger_wrong(kind, form.trigger.is_some()) {
-        return Some(7);
-    }
-    if form.quantity.is_none() {
-        return Some(8);
-    }
-    None
+    filled(8, form.quantity)?;
+    Ok(())
 }
 
 // The type with its prices; one that is missing counts as out of range.
@@ -88,30 +70,22 @@ fn kind_of(kind: OrderType, price: Option<Price>, trigger: Option<Price>) -> Res
     }
 }
 
-fn known_type(at: u8, cell: Option<u8>) -> Result<OrderType, Refusal>
-    ensures { result ≡ in_range at (type_in_cell cell) }
-{
-    match type_in_cell(cell) {
-        Some(kind) => Ok(kind),
-        None => Err(Refusal::OutOfRange { cell: at }),
-    }
-}
-
+// Every cell within its range; a blank one reads 0 where a number is wanted.
 fn typed_entry(form: EntryForm) -> Result<Asked, Refusal>
     ensures { result ≡ typed_entry form }
 {
-    let firm = firm_in(1, form.firm.unwrap_or(0))?;
-    let client = label_in(2, form.client.unwrap_or(0))?;
+    let firm = FIRMS.read(1, form.firm.unwrap_or(0))?;
+    let client = LABELS.read(2, form.client.unwrap_or(0))?;
     let side = side_in(3, form.side.unwrap_or(0))?;
-    let kind = known_type(4, form.kind)?;
+    let kind = type_in_cell(form.kind).ok_or(Refusal::OutOfRange { cell: 4 })?;
     let validity = validity_in(5, form.validity.unwrap_or(0))?;
     let price = price_if_filled(6, form.price)?;
     let trigger = price_if_filled(7, form.trigger)?;
-    let quantity = lots_in(1, 8, form.quantity.unwrap_or(0))?;
-    let disclosed = lots_in(0, 9, form.disclosed.unwrap_or(0))?;
-    let minimum = lots_in(0, 10, form.minimum.unwrap_or(0))?;
-    let investor = investor_in(11, form.investor.unwrap_or(0))?;
-    let tag = tag_in(12, form.tag.unwrap_or(0))?;
+    let quantity = LOTS.read(8, form.quantity.unwrap_or(0))?;
+    let disclosed = LOTS_OR_NONE.read(9, form.disclosed.unwrap_or(0))?;
+    let minimum = LOTS_OR_NONE.read(10, form.minimum.unwrap_or(0))?;
+    let investor = INVESTORS.read(11, form.investor.unwrap_or(0))?;
+    let tag = TAGS.read(12, form.tag.unwrap_or(0))?;
     let kind = kind_of(kind, price, trigger)?;
     Ok(Asked {
         firm,
@@ -131,9 +105,7 @@ fn typed_entry(form: EntryForm) -> Result<Asked, Refusal>
 pub fn read_entry(form: EntryForm) -> Result<Asked, Refusal>
     ensures { result ≡ read_entry form }
 {
-    if let Some(cell) = wrong_blank(form) {
-        return Err(Refusal::WrongBlank { cell });
-    }
+    check_blanks(form)?;
     let asked = typed_entry(form)?;
     if is_barred(asked) {
         return Err(Refusal::Barred);

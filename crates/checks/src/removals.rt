@@ -2,7 +2,7 @@
 ghost use Rattle.std.specs.Prelude.{◌≡◌};
 ghost use Rattle.checks.specs.Removals.{read_cancel, read_mass_cancel, read_opening};
 
-use crate::cells::{day_in, firm_in, investor_if_filled, label_in, side_if_filled, tag_if_filled};
+use crate::cells::{DAYS, FIRMS, INVESTORS, LABELS, TAGS, filled, side_in};
 use forms::form::{CancelForm, MassCancelForm, OpeningForm};
 use forms::refusal::Refusal;
 use matching::pick::Wanted;
@@ -17,27 +17,20 @@ pub struct CancelAsked {
 pub fn read_cancel(form: CancelForm) -> Result<CancelAsked, Refusal>
     ensures { result ≡ read_cancel form }
 {
-    if form.firm.is_none() {
-        return Err(Refusal::WrongBlank { cell: 1 });
-    }
-    if form.number.is_none() {
-        return Err(Refusal::WrongBlank { cell: 2 });
-    }
-    let firm = firm_in(1, form.firm.unwrap_or(0))?;
-    let number = label_in(2, form.number.unwrap_or(0))?;
+    let firm = filled(1, form.firm)?;
+    let number = filled(2, form.number)?;
+    let firm = FIRMS.read(1, firm)?;
+    let number = LABELS.read(2, number)?;
     Ok(CancelAsked { firm, number })
 }
 
 pub fn read_mass_cancel(form: MassCancelForm) -> Result<Wanted, Refusal>
     ensures { result ≡ read_mass_cancel form }
 {
-    if form.firm.is_none() {
-        return Err(Refusal::WrongBlank { cell: 1 });
-    }
-    let firm = firm_in(1, form.firm.unwrap_or(0))?;
-    let side = side_if_filled(2, form.side)?;
-    let tag = tag_if_filled(3, form.tag)?;
-    let investor = investor_if_filled(4, form.investor)?;
+    let firm = FIRMS.read(1, filled(1, form.firm)?)?;
+    let side = form.side.map(|n| side_in(2, n)).transpose()?;
+    let tag = form.tag.map(|n| TAGS.read(3, n)).transpose()?;
+    let investor = form.investor.map(|n| INVESTORS.read(4, n)).transpose()?;
     Ok(Wanted {
         firm,
         side,
@@ -50,8 +43,5 @@ pub fn read_mass_cancel(form: MassCancelForm) -> Result<Wanted, Refusal>
 pub fn read_opening(form: OpeningForm) -> Result<u16, Refusal>
     ensures { result ≡ read_opening form }
 {
-    let Some(day) = form.day else {
-        return Err(Refusal::WrongBlank { cell: 1 });
-    };
-    day_in(1, day)
+    DAYS.read(1, filled(1, form.day)?)
 }
