@@ -25,6 +25,7 @@ fn slots_under_card() -> FrontCard<SlotBook>
     FrontCard::over(slot_book())
 }
 
+// The other drill has the same line: no crate below both prints.
 fn verdict(first: &str, text: &str) -> &'static str {
     if first == text { "same" } else { "differs" }
 }

@@ -78,6 +78,7 @@ fn rewrite<B: Book>(book: &mut B, queue: Queue, at: usize, requeue: bool) -> &'s
     }
 }
 
+// The drill's own names: so no Display of Queue.
 fn name(queue: Queue) -> &'static str {
     match queue {
         Queue::Orders(Side::Buy) => "bid",

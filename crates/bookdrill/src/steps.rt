@@ -3,6 +3,7 @@ use books::queue::Queue;
 use orders::side::Side;
 
 // Puts name a number and a price in hundredths, of a stop its trigger; the others a queue and a place, or a number.
+// A table of values, not of closures: each step is printed by its name too.
 #[derive(Clone, Copy)]
 pub enum Step {
     Bid(u32, u32),

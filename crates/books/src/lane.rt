@@ -6,6 +6,7 @@ ghost use Rattle.books.specs.Runs.{Run};
 
 use orders::ranked::Ranked;
 
+// That a capacity stays stands with each call that writes: one clause for rows and capacity would hide which of the two changes.
 pub trait Lane {
     type Row: Ranked;
 

@@ -1,4 +1,4 @@
-// The order, or the stop, in what a look tells.
+// The order, or the stop, in what a look tells. Each takes one kind and leaves the other: two arms, and nothing to share.
 ghost use Rattle.std.specs.Prelude.{◌≡◌};
 ghost use Rattle.books.specs.Model.{order_in, stop_in, order_of_record};
 

@@ -27,7 +27,7 @@ pub enum Refusal {
 }
 
 impl Refusal {
-    // The published number.
+    // The published number; variants with fields take none from Rust, so they are listed.
     pub fn number(self) -> u8
         ensures { result ≡ number self }
     {
@@ -54,7 +54,7 @@ impl Refusal {
         }
     }
 
-    // The cell that it names, or 0.
+    // The cell that it names, or 0, which the published reply has for none.
     pub fn cell(self) -> u8
         ensures { result ≡ cell self }
     {
@@ -67,7 +67,7 @@ impl Refusal {
         }
     }
 
-    // The place in that cell, or 0.
+    // The place in that cell, or 0, likewise.
     pub fn place(self) -> u8
         ensures { result ≡ place self }
     {

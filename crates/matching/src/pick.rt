@@ -14,6 +14,7 @@ pub struct Wanted {
     pub investor: Option<u64>,
 }
 
+// An enum, not a closure: what is removed stands in contracts and laws by the rule's name.
 #[derive(Clone, Copy)]
 pub enum Pick {
     Matching(Wanted),

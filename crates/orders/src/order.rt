@@ -4,7 +4,8 @@ ghost use Rattle.std.specs.Prelude.{◌≡◌, ◌+◌, ◌*◌, ◌≤◌};
 use crate::price::Price;
 use crate::side::{Side, Validity};
 
-// `leaves` are the open lots: neither traded nor cancelled. Investor 0 is none.
+// `leaves` are the open lots: neither traded nor cancelled.
+// Investor 0 and disclosed 0 are none, as in the published cells: an Option would only say that 0 cannot be in it.
 #[derive(Clone, Copy)]
 pub struct Order {
     pub number: u32,

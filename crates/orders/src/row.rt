@@ -7,6 +7,7 @@ use crate::order::{Order, Stop};
 use crate::price::Price;
 use crate::side::{Side, Validity};
 
+// A type beside Order: what lies in a lent slice may be outside the bounds, and no Order is.
 #[derive(Clone, Copy)]
 pub struct OrderRow {
     pub number: u32,
@@ -108,6 +109,7 @@ impl From<OrderRow> for Order {
     }
 }
 
+// A type beside Stop, since its order is a row: one struct over either would make each clause name the order's type.
 #[derive(Clone, Copy)]
 pub struct StopRow {
     pub order: OrderRow,

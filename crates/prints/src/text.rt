@@ -46,6 +46,7 @@ impl fmt::Display for LineText {
     }
 }
 
+// Numbers, 0 where unused: the published fields of a line.
 #[derive(Clone, Copy)]
 struct Fields {
     kind: char,
@@ -162,6 +163,7 @@ impl fmt::Display for ReplyText {
     }
 }
 
+// The name of a queue's side, not of a side as such: so no Display of Side.
 fn side_text(side: Side) -> &'static str
     ensures { result.now ≡ side_text side }
 {

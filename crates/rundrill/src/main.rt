@@ -64,6 +64,7 @@ fn spare() -> OrderRow {
     }
 }
 
+// The other drill has the same line: no crate below both prints.
 fn verdict(first: &str, text: &str) -> &'static str {
     if first == text { "same" } else { "differs" }
 }

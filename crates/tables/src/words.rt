@@ -14,7 +14,7 @@ pub(crate) enum Run {
     Name,
 }
 
-// Where a word lies in its line.
+// Where a word lies in its line. Start and size, not a slice: a word that spoils its line is told by its place.
 #[derive(Clone, Copy)]
 pub(crate) struct Word {
     pub(crate) start: usize,

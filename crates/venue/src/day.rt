@@ -1,4 +1,5 @@
 // Open and closed days: neither can be lost, and neither can be used twice.
+// Two types of the same fields, so that a step of an open day is not built on a closed one.
 use matching::clock::Clock;
 
 pub struct OpenDay {

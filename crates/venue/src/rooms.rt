@@ -30,6 +30,7 @@ fn needed<B: Book>(book: &B) -> usize
     20 * (bids + offers + buy_stops + sell_stops + 1)
 }
 
+// Two tests of one line each: a shared one would be given the count and the refusal.
 pub fn lines_free<B: Book>(book: &B, tape: &Tape) -> Result<(), Refusal>
     ensures { result ≡ lines_free (B.queues book.now) (reel tape.now) }
 {

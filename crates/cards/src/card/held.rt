@@ -24,6 +24,7 @@ pub(super) fn over(held: Option<Record>, first: Option<Record>) -> Option<Record
     }
 }
 
+// One for each kind of row: a trait for the two would be longer than both.
 fn standing(row: OrderRow) -> Record
     ensures { result ≡ Standing (order_of row) }
 {

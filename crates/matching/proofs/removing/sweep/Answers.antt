@@ -1,4 +1,4 @@
-use Rattle.std.proofs.Common.{◌≡◌, ◌-◌, ◌<◌, ◌+◌, None, sym, ap, ◌∙◌, arith}
+use Rattle.std.proofs.Common.{◌≡◌, ◌-◌, ◌<◌, ◌+◌, sym, ap, ◌∙◌, arith}
 use Rattle.orders.specs.declared.order.Order.{Order}
 use Rattle.books.specs.Model.{count}
 use Rattle.matching.specs.Clocks.{started}

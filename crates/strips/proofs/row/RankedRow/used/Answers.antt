@@ -1,4 +1,4 @@
-use Rattle.std.proofs.Common.{◌≡◌, min, length, sym, ap, ◌∙◌}
+use Rattle.std.proofs.Common.{min, sym, ap, ◌∙◌}
 use Rattle.strips.proofs.Capped.{front_length, front_used}
 use Rattle.strips.proofs.row.RankedRow.used.Goals as goal
 
