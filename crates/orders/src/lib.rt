@@ -1,6 +1,7 @@
 // Orders, stops, their plain rows, and how they rank.
 #![tactic(auto)]
 
+pub mod compare;
 pub mod lots;
 pub mod order;
 pub mod price;

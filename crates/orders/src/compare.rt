@@ -1,0 +1,21 @@
+// What the derived comparisons mean: prices, sides and ranks compare as the definitions say.
+ghost use Rattle.std.specs.Prelude.{◌≡◌};
+ghost use Rattle.std.specs.Ordering.{is_lt};
+ghost use Rattle.orders.specs.declared.price.Price.{Price as Level};
+ghost use Rattle.orders.specs.declared.rank.Rank.{Rank as Place};
+ghost use Rattle.orders.specs.declared.side.Side.{Side as Way};
+ghost use Rattle.orders.specs.Prices.{same_price};
+ghost use Rattle.orders.specs.Ranks.{before, same_rank};
+ghost use Rattle.orders.specs.Sides.{same_side};
+
+use crate::price::Price;
+use crate::rank::Rank;
+use crate::side::Side;
+
+// Equal prices, sides and ranks are the same, and the lesser rank is ahead.
+pub fn derived_as_defined()
+    ensures prices { (a b : Level) → ⟦<Price as PartialEq>⟧.eq a b ≡ same_price a b }
+    ensures sides { (a b : Way) → ⟦<Side as PartialEq>⟧.eq a b ≡ same_side a b }
+    ensures ranks { (a b : Place) → ⟦<Rank as PartialEq>⟧.eq a b ≡ same_rank a b }
+    ensures ahead { (a b : Place) → is_lt (⟦<Rank as Ord>⟧.cmp a b) ≡ before a b }
+{}
