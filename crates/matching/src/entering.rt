@@ -1,6 +1,6 @@
 // How an entry comes in.
 ghost use Rattle.std.specs.Prelude.{◌≡◌, Some, None};
-ghost use Rattle.matching.specs.Model.{misses, happen};
+ghost use Rattle.matching.specs.Model.{line_A, misses, happen};
 ghost use Rattle.matching.specs.Next.{next};
 ghost use Rattle.matching.specs.Stepping.{floor};
 ghost use Rattle.matching.specs.Entering.{order_from, short, judged, arrival_as, arrival, enter};
@@ -20,6 +20,16 @@ use orders::side::Validity;
 use tapes::cause::Cause;
 use tapes::line::Line;
 use tapes::tape::Tape;
+
+fn entered(order: Order) -> Line
+    ensures { result ≡ line_A order }
+{
+    Line::Entered {
+        number: order.number,
+        limit: Some(order.price),
+        quantity: order.quantity,
+    }
+}
 
 // Whether reach falls short of what the entry wants at once.
 fn is_short<B: Book>(book: &B, asked: Asked, order: Order) -> bool
@@ -44,11 +54,7 @@ fn come_in<B: Book>(
     ensures { floor (B.queues book.now) tape.new clock.new result ≡ happen (judged asked (order_from asked price clock.old.stamp) (B.queues book.now)) (floor (B.queues book.now) tape.old clock.old None) }
 {
     let order = asked.order(price, clock.draw());
-    tape.write(Line::Entered {
-        number: order.number,
-        limit: Some(order.price),
-        quantity: order.quantity,
-    });
+    tape.write(entered(order));
     if is_short(book, asked, order) {
         tape.write(cancelled(order, Cause::ShortReach));
         return None;
@@ -86,11 +92,7 @@ fn park<B: Book>(
     ensures { floor (B.queues book.new) tape.new clock.new None ≡ happen (arrival_as (StopLimit limit trigger) asked clock.old.stamp (B.queues book.old)) (floor (B.queues book.old) tape.old clock.old None) }
 {
     let order = asked.order(limit, clock.draw());
-    tape.write(Line::Entered {
-        number: order.number,
-        limit: Some(order.price),
-        quantity: order.quantity,
-    });
+    tape.write(entered(order));
     if book.put(Record::Waiting(Stop { order, trigger })).is_err() {
         tape.write(cancelled(order, Cause::NoPlace));
     }

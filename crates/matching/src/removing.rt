@@ -29,6 +29,7 @@ pub fn pull<B: Book>(
 }
 
 // Along a queue, what is picked is pulled and what is not is passed.
+// By place, not by an iterator: a pull changes the queue that is walked, and leaves its place to the next record.
 fn sweep<B: Book>(book: &mut B, tape: &mut Tape, pick: Pick, cause: Cause, queue: Queue)
     ensures { (c : Numbers) → floor (B.queues book.new) tape.new c None ≡ swept pick cause queue (floor (B.queues book.old) tape.old c None) }
 {

@@ -11,6 +11,7 @@ pub(crate) enum Directory {
     Cells,
 }
 
+// Offset and length are one look each: a shared one would be given what tells them apart, by kind.
 impl Directory {
     fn offset(self, bytes: &[u8], k: u16) -> u16
         ensures { result ≡ offset_at self bytes.now k }

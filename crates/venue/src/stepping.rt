@@ -1,4 +1,5 @@
 // One step of a day of which only the run knows whether it is open.
+// By a match on the form, not by closures: a form is data that a member sends.
 ghost use Rattle.std.specs.Prelude.{◌≡◌};
 ghost use Rattle.checks.specs.Removals.{read_opening};
 ghost use Rattle.venue.specs.Days.{state, wrong_day, closed_refusal, answer, step};

@@ -37,6 +37,7 @@ fn waiting(row: StopRow) -> Record
     Record::Waiting(Stop::from(row))
 }
 
+// That the book below stays stands with each call that writes: it is no fact about a card, but about two of them.
 impl<B> FrontCard<B> {
     // The record that is held over a queue.
     pub(super) fn held(&self, queue: Queue) -> Option<Record>
