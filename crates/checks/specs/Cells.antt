@@ -1,9 +1,8 @@
 -- What a cell reads as, and when it is out of range. A blank number cell reads 0 where a number is wanted.
 use Rattle.std.specs.Prelude.{ℕ, Bool, cond, not, ◌&&◌, is_some, Some, None, Ok, Err, Option, Result, ◌==◌, nat_le}
 use Rattle.orders.specs.declared.side.Side.{Side}
-use Rattle.orders.specs.declared.side.Side.TheVariants.{Buy, Sell}
 use Rattle.orders.specs.declared.side.Validity.{Validity}
-use Rattle.orders.specs.declared.side.Validity.TheVariants.{Day, Gtc, Ioc, Fok}
+use Rattle.orders.specs.Sides.{side_of, validity_of}
 use Rattle.orders.specs.declared.price.Price.{Price}
 use Rattle.orders.specs.Prices.{listed}
 use Rattle.forms.specs.declared.refusal.Refusal.{Refusal}
@@ -61,16 +60,8 @@ investor_in at v = number_in 0 999999999999 at v
 abbrev pub tag_in : ℕ → ℕ → Result ℕ Refusal
 tag_in at v = number_in 0 255 at v
 
--- 1 buys, 2 sells
-abbrev pub side_of : ℕ → Option Side
-side_of n = cond (n == 1) (Some Buy) (cond (n == 2) (Some Sell) None)
-
 abbrev pub side_in : ℕ → ℕ → Result Side Refusal
 side_in at v = in_range at (side_of v)
-
--- 0 Day, 1 GTC, 3 IOC, 4 FOK
-abbrev pub validity_of : ℕ → Option Validity
-validity_of n = cond (n == 0) (Some Day) (cond (n == 1) (Some Gtc) (cond (n == 3) (Some Ioc) (cond (n == 4) (Some Fok) None)))
 
 abbrev pub validity_in : ℕ → ℕ → Result Validity Refusal
 validity_in at v = in_range at (validity_of v)

@@ -7,7 +7,7 @@ ghost use Rattle.checks.specs.Cells.{and_then, in_range, number_in, side_in, val
 
 use forms::refusal::Refusal;
 use orders::price::Price;
-use orders::side::{Side, Validity};
+use orders::side::{Side, UnknownCode, Validity};
 use std::num::TryFromIntError;
 
 // The order types: 2, 4 and K.
@@ -61,39 +61,30 @@ pub(crate) fn filled<C>(at: u8, cell: Option<C>) -> Result<C, Refusal>
     cell.ok_or(Refusal::WrongBlank { cell: at })
 }
 
-// By hand, not TryFrom: Side and Validity are of another crate, and the refusal names the cell.
-
 pub fn side_in(at: u8, value: u64) -> Result<Side, Refusal>
     ensures { result ≡ side_in at value }
 {
-    match value {
-        1 => Ok(Side::Buy),
-        2 => Ok(Side::Sell),
-        _ => Err(Refusal::OutOfRange { cell: at }),
-    }
+    Side::try_from(value).map_err(|_| Refusal::OutOfRange { cell: at })
 }
 
 pub fn validity_in(at: u8, value: u64) -> Result<Validity, Refusal>
     ensures { result ≡ validity_in at value }
 {
-    match value {
-        0 => Ok(Validity::Day),
-        1 => Ok(Validity::Gtc),
-        3 => Ok(Validity::Ioc),
-        4 => Ok(Validity::Fok),
-        _ => Err(Refusal::OutOfRange { cell: at }),
-    }
+    Validity::try_from(value).map_err(|_| Refusal::OutOfRange { cell: at })
 }
 
-// An Option, not TryFrom: an error type of its own would say no more.
-pub fn type_of(byte: u8) -> Option<OrderType>
-    ensures { result ≡ type_of byte }
-{
-    match byte {
-        b'2' => Some(OrderType::Limit),
-        b'4' => Some(OrderType::StopLimit),
-        b'K' => Some(OrderType::Market),
-        _ => None,
+impl TryFrom<u8> for OrderType {
+    type Error = UnknownCode;
+
+    ghost try_from_gives = { λ byte told. result_ok told ≡ type_of byte };
+
+    fn try_from(byte: u8) -> Result<OrderType, UnknownCode> {
+        match byte {
+            b'2' => Ok(OrderType::Limit),
+            b'4' => Ok(OrderType::StopLimit),
+            b'K' => Ok(OrderType::Market),
+            _ => Err(UnknownCode(u64::from(byte))),
+        }
     }
 }
 

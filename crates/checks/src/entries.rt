@@ -5,7 +5,7 @@ ghost use Rattle.checks.specs.Entries.{price_wrong, trigger_wrong, type_in_cell,
 
 use crate::cells::{
     FIRMS, INVESTORS, LABELS, LOTS, LOTS_OR_NONE, OrderType, TAGS, filled, price_if_filled,
-    side_in, type_of, validity_in,
+    side_in, validity_in,
 };
 use crate::combos::is_barred;
 use forms::form::EntryForm;
@@ -32,7 +32,7 @@ impl OrderType {
 fn type_in_cell(cell: Option<u8>) -> Option<OrderType>
     ensures { result ≡ type_in_cell cell }
 {
-    type_of(cell?)
+    OrderType::try_from(cell?).ok()
 }
 
 // Which cells must be filled, and which blank.

@@ -1,5 +1,5 @@
 -- The two sides, and what a validity means.
-use Rattle.std.specs.Prelude.{Bool, true, false}
+use Rattle.std.specs.Prelude.{ℕ, Bool, true, false, cond, Some, None, Option, ◌==◌}
 use Rattle.orders.specs.declared.side.Side.{Side}
 use Rattle.orders.specs.declared.side.Side.TheVariants.{Buy, Sell}
 use Rattle.orders.specs.declared.side.Validity.{Validity}
@@ -28,3 +28,11 @@ daily Day = true
 daily Gtc = false
 daily Ioc = false
 daily Fok = false
+
+-- 1 buys, 2 sells
+abbrev pub side_of : ℕ → Option Side
+side_of n = cond (n == 1) (Some Buy) (cond (n == 2) (Some Sell) None)
+
+-- 0 Day, 1 GTC, 3 IOC, 4 FOK
+abbrev pub validity_of : ℕ → Option Validity
+validity_of n = cond (n == 0) (Some Day) (cond (n == 1) (Some Gtc) (cond (n == 3) (Some Ioc) (cond (n == 4) (Some Fok) None)))

@@ -1,6 +1,7 @@
 // Which way an order goes, and how long it holds.
 ghost use Rattle.std.specs.Prelude.{◌≡◌};
-ghost use Rattle.orders.specs.Sides.{other, fleeting, daily};
+ghost use Rattle.std.specs.Result.{result_ok};
+ghost use Rattle.orders.specs.Sides.{other, fleeting, daily, side_of, validity_of};
 
 #[derive(Clone, Copy, Debug, PartialEq, Eq)]
 pub enum Side {
@@ -14,6 +15,40 @@ pub enum Validity {
     Gtc,
     Ioc,
     Fok,
+}
+
+// A number that stands for no side, or for no validity.
+#[derive(Clone, Copy, Debug, PartialEq, Eq)]
+pub struct UnknownCode(pub u64);
+
+impl TryFrom<u64> for Side {
+    type Error = UnknownCode;
+
+    ghost try_from_gives = { λ code told. result_ok told ≡ side_of code };
+
+    fn try_from(code: u64) -> Result<Side, UnknownCode> {
+        match code {
+            1 => Ok(Side::Buy),
+            2 => Ok(Side::Sell),
+            _ => Err(UnknownCode(code)),
+        }
+    }
+}
+
+impl TryFrom<u64> for Validity {
+    type Error = UnknownCode;
+
+    ghost try_from_gives = { λ code told. result_ok told ≡ validity_of code };
+
+    fn try_from(code: u64) -> Result<Validity, UnknownCode> {
+        match code {
+            0 => Ok(Validity::Day),
+            1 => Ok(Validity::Gtc),
+            3 => Ok(Validity::Ioc),
+            4 => Ok(Validity::Fok),
+            _ => Err(UnknownCode(code)),
+        }
+    }
 }
 
 impl Side {
