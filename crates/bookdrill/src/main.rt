@@ -25,7 +25,7 @@ fn slots_under_card() -> FrontCard<SlotBook>
     FrontCard::over(slot_book())
 }
 
-// The other drill has the same line: no crate below both prints.
+// Only the two drills say it, and they share no crate for that.
 fn verdict(first: &str, text: &str) -> &'static str {
     if first == text { "same" } else { "differs" }
 }

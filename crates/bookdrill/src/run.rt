@@ -28,32 +28,26 @@ pub fn row(number: u32, side: Side, hundredths: u32) -> OrderRow {
 }
 
 fn order(number: u32, side: Side, hundredths: u32) -> Record {
-    Record::Standing(Order::from(row(number, side, hundredths)))
+    Record::from(row(number, side, hundredths))
 }
 
 fn stop(number: u32, side: Side, hundredths: u32) -> Record {
-    Record::Waiting(Stop::from(StopRow {
+    Record::from(StopRow {
         order: row(number, side, hundredths),
         trigger: Price { hundredths },
-    }))
+    })
 }
 
-// The record with a lot less, under its turn or another.
-fn changed(record: Record, requeue: bool) -> Record {
+// The record with its order changed.
+fn changed<F: FnOnce(Order) -> Order>(record: Record, change: F) -> Record
+    requires { F.IsAlwaysCallable change }
+{
     match record {
-        Record::Standing(o) => Record::Standing(fewer(o, requeue)),
+        Record::Standing(o) => Record::Standing(change(o)),
         Record::Waiting(x) => Record::Waiting(Stop {
-            order: fewer(x.order, requeue),
+            order: change(x.order),
             trigger: x.trigger,
         }),
-    }
-}
-
-fn fewer(o: Order, requeue: bool) -> Order {
-    if requeue {
-        o.renewed(900, 1)
-    } else {
-        o.lowered(1)
     }
 }
 
@@ -65,16 +59,21 @@ fn put<B: Book>(book: &mut B, record: Record) -> &'static str {
     }
 }
 
-fn rewrite<B: Book>(book: &mut B, queue: Queue, at: usize, requeue: bool) -> &'static str {
-    match book.look(queue, at) {
-        Some(r) => {
-            if book.rewrite(at, changed(r, requeue)) {
-                "rewritten"
-            } else {
-                "refused"
-            }
-        }
-        None => "none",
+fn rewrite<B: Book, F: FnOnce(Order) -> Order>(
+    book: &mut B,
+    queue: Queue,
+    at: usize,
+    change: F,
+) -> &'static str
+    requires { F.IsAlwaysCallable change }
+{
+    let Some(record) = book.look(queue, at) else {
+        return "none";
+    };
+    if book.rewrite(at, changed(record, change)) {
+        "rewritten"
+    } else {
+        "refused"
     }
 }
 
@@ -124,12 +123,12 @@ fn told<B: Book>(heap: Global, book: &mut B, step: Step) -> Result<String, Alloc
         Step::Lower(q, at) => format!(in heap;
             "lower {} {at}: {}",
             name(q),
-            rewrite(book, q, at, false)
+            rewrite(book, q, at, |o| o.lowered(1))
         ),
         Step::Requeue(q, at) => format!(in heap;
             "requeue {} {at}: {}",
             name(q),
-            rewrite(book, q, at, true)
+            rewrite(book, q, at, |o| o.renewed(900, 1))
         ),
         Step::Take(q, at) => {
             let taken = shown(heap, book.take(q, at))?;

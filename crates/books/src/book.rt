@@ -24,7 +24,7 @@ pub trait Book {
         ensures told { result ≡ put_answer «record» (queues self.old) }
         ensures left { queues self.new ≡ after_put result «record» (queues self.old) };
 
-    // Swaps the record at a place of its queue for one of the same number and rank.
+    // Swaps the record at a place of its queue for one of the same number and rank. A bool: there is one reason to refuse.
     fn rewrite(&mut self, at: usize, record: Record) -> bool
         ensures told { result ≡ rewrite_fits at «record» (queues self.old) }
         ensures left { queues self.new ≡ rewritten at «record» (queues self.old) };

@@ -6,7 +6,7 @@ ghost use Rattle.books.specs.Runs.{Run};
 
 use orders::ranked::Ranked;
 
-// That a capacity stays stands with each call that writes: one clause for rows and capacity would hide which of the two changes.
+// Rows and capacity are said apart, call by call: a run holds proofs of its bounds, so one equation of runs would have to equate proofs.
 pub trait Lane {
     type Row: Ranked;
 

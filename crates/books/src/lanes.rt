@@ -20,6 +20,7 @@ pub struct Lanes<O, S> {
     pub sells: S,
 }
 
+// An arm for each queue: a lane picked by its side would be lent out, with a clause on what the loan leaves.
 impl<O: Lane<Row = OrderRow>, S: Lane<Row = StopRow>> Book for Lanes<O, S> {
     ghost queues = { lanes_queues O.Lane.run S.Lane.run };
 
@@ -44,19 +45,11 @@ impl<O: Lane<Row = OrderRow>, S: Lane<Row = StopRow>> Book for Lanes<O, S> {
     }
 
     fn find(&self, number: u32) -> Option<(Queue, usize)> {
-        if let Some(p) = find_item(&self.bids, number) {
-            return Some((Queue::Orders(Side::Buy), p));
-        }
-        if let Some(p) = find_item(&self.offers, number) {
-            return Some((Queue::Orders(Side::Sell), p));
-        }
-        if let Some(p) = find_item(&self.buys, number) {
-            return Some((Queue::Stops(Side::Buy), p));
-        }
-        if let Some(p) = find_item(&self.sells, number) {
-            return Some((Queue::Stops(Side::Sell), p));
-        }
-        None
+        find_item(&self.bids, number)
+            .map(|p| (Queue::Orders(Side::Buy), p))
+            .or_else(|| find_item(&self.offers, number).map(|p| (Queue::Orders(Side::Sell), p)))
+            .or_else(|| find_item(&self.buys, number).map(|p| (Queue::Stops(Side::Buy), p)))
+            .or_else(|| find_item(&self.sells, number).map(|p| (Queue::Stops(Side::Sell), p)))
     }
 
     fn put(&mut self, record: Record) -> Result<(), PutError> {

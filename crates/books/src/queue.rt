@@ -1,5 +1,7 @@
 // The names of a book's queues, and what stands in them.
 ghost use Rattle.std.specs.Prelude.{◌≡◌};
+ghost use Rattle.orders.specs.Rows.{order_of, stop_of};
+ghost use Rattle.books.specs.declared.queue.Record.TheVariants.{Standing, Waiting};
 ghost use Rattle.books.specs.Model.{queue_of, number_of, record_rank};
 ghost use Rattle.orders.specs.RanksLemmas.{before_apart, before_chain, before_settled};
 
@@ -38,6 +40,23 @@ impl Record {
             Record::Standing(o) => Queue::Orders(o.side),
             Record::Waiting(x) => Queue::Stops(x.order.side),
         }
+    }
+}
+
+// The record that a row lies for.
+impl From<OrderRow> for Record {
+    ghost from_gives = { λ row r. r ≡ Standing (order_of row) };
+
+    fn from(row: OrderRow) -> Record {
+        Record::Standing(Order::from(row))
+    }
+}
+
+impl From<StopRow> for Record {
+    ghost from_gives = { λ row r. r ≡ Waiting (stop_of row) };
+
+    fn from(row: StopRow) -> Record {
+        Record::Waiting(Stop::from(row))
     }
 }
 

@@ -18,7 +18,7 @@ pub enum OrderType {
     Market,
 }
 
-// The lowest and the highest number that a cell takes.
+// The lowest and the highest number that a cell takes. Not a RangeInclusive, which is not Copy.
 #[derive(Clone, Copy)]
 pub(crate) struct Bounds(u64, u64);
 

@@ -51,12 +51,12 @@ fn run(rt: &HostRuntime) -> anyhow::Result<()> {
 fn work_rows<B: Book>(
     rt: &HostRuntime,
     mut sheet: Sheet,
-    day: Day,
+    mut day: Day,
     book: &mut B,
     tape: &mut Tape,
     replies: &mut Replies,
 ) -> anyhow::Result<()> {
-    let mut day = day;
+    // Kept till the day is taken apart: a `?` in the loop would lose it.
     let mut printed = Ok(());
     while let Some(drawn) = sheet.draw() {
         let before = tape.all().len();

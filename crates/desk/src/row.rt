@@ -21,15 +21,10 @@ pub fn work_row<B: Book>(
     ensures { desk (state (B.queues book.new) tape.new result) replies.new ≡ row_done drawn.entry.slip.row drawn.entry.bytes.now (desk (state (B.queues book.old) tape.old day) replies.old) }
 {
     let Drawn { slip, bytes } = drawn;
-    match read_form(bytes) {
-        Ok(form) => {
-            let (day, told) = step(day, book, tape, form);
-            slip.post(replies, told);
-            day
-        }
-        Err(refusal) => {
-            slip.post(replies, Err(refusal));
-            day
-        }
-    }
+    let (day, told) = match read_form(bytes) {
+        Ok(form) => step(day, book, tape, form),
+        Err(refusal) => (day, Err(refusal)),
+    };
+    slip.post(replies, told);
+    day
 }

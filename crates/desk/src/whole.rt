@@ -20,7 +20,7 @@ pub fn admit<'a>(bytes: &'a [u8], replies: &Replies) -> Result<Sheet<'a>, Refusa
     ensures { MatchResult result (λ s. (if_answerable bytes.now (free_replies replies.now) (sheet_refusal bytes.now) ≡ None) × Begun bytes.now s) (λ e. if_answerable bytes.now (free_replies replies.now) (sheet_refusal bytes.now) ≡ Some e) }
 {
     let sheet = Sheet::read(bytes)?;
-    if replies.free() < sheet.rows() as usize {
+    if replies.free() < usize::from(sheet.rows()) {
         return Err(Refusal::NoReplies);
     }
     Ok(sheet)
@@ -29,7 +29,7 @@ pub fn admit<'a>(bytes: &'a [u8], replies: &Replies) -> Result<Sheet<'a>, Refusa
 // All rows of a sheet, or the one answer that a refused sheet gets, which nobody posts.
 pub fn work_sheet<B: Book>(
     bytes: &[u8],
-    day: Day,
+    mut day: Day,
     book: &mut B,
     tape: &mut Tape,
     replies: &mut Replies,
@@ -41,7 +41,6 @@ pub fn work_sheet<B: Book>(
         Ok(sheet) => sheet,
         Err(refusal) => return (day, Some(Reply::to_sheet(refusal))),
     };
-    let mut day = day;
     while let Some(drawn) = sheet.draw() {
         day = work_row(drawn, day, book, tape, replies);
     }

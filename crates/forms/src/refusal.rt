@@ -27,7 +27,7 @@ pub enum Refusal {
 }
 
 impl Refusal {
-    // The published number; variants with fields take none from Rust, so they are listed.
+    // The published number; a variant with fields has no `as u8`, so they are listed.
     pub fn number(self) -> u8
         ensures { result ≡ number self }
     {

@@ -16,6 +16,7 @@ pub enum Kind {
     StopLimit { limit: Price, trigger: Price },
 }
 
+// Disclosed, minimum and investor are 0 for none, as in an order.
 #[derive(Clone, Copy)]
 pub struct Asked {
     pub firm: u16,

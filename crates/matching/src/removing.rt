@@ -43,7 +43,7 @@ fn sweep<B: Book>(book: &mut B, tape: &mut Tape, pick: Pick, cause: Cause, queue
     }
 }
 
-// All that is picked is removed, in the order of the four queues.
+// All that is picked is removed, in the order of the four queues, by name as the definition has them.
 pub fn remove<B: Book>(book: &mut B, tape: &mut Tape, pick: Pick, cause: Cause)
     ensures { (c : Numbers) → floor (B.queues book.new) tape.new c None ≡ removals pick cause (floor (B.queues book.old) tape.old c None) }
 {

@@ -1,6 +1,6 @@
 // What the derived comparisons mean: prices, sides and ranks compare as the definitions say.
 ghost use Rattle.std.specs.Prelude.{◌≡◌};
-ghost use Rattle.std.specs.Ordering.{is_lt};
+ghost use Rattle.std.specs.Ordering.{is_lt, is_some_and};
 ghost use Rattle.orders.specs.declared.price.Price.{Price as Level};
 ghost use Rattle.orders.specs.declared.rank.Rank.{Rank as Place};
 ghost use Rattle.orders.specs.declared.side.Side.{Side as Way};
@@ -18,4 +18,5 @@ pub fn derived_as_defined()
     ensures sides { (a b : Way) → ⟦<Side as PartialEq>⟧.eq a b ≡ same_side a b }
     ensures ranks { (a b : Place) → ⟦<Rank as PartialEq>⟧.eq a b ≡ same_rank a b }
     ensures ahead { (a b : Place) → is_lt (⟦<Rank as Ord>⟧.cmp a b) ≡ before a b }
+    ensures less { (a b : Place) → is_some_and is_lt (⟦<Rank as PartialOrd>⟧.partial_cmp a b) ≡ before a b }
 {}

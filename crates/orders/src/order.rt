@@ -5,7 +5,7 @@ use crate::price::Price;
 use crate::side::{Side, Validity};
 
 // `leaves` are the open lots: neither traded nor cancelled.
-// Investor 0 and disclosed 0 are none, as in the published cells: an Option would only say that 0 cannot be in it.
+// Investor 0 and disclosed 0 are none, as in the published cells and the definitions: an Option would need a fact that bars Some(0).
 #[derive(Clone, Copy)]
 pub struct Order {
     pub number: u32,

@@ -109,7 +109,7 @@ impl From<OrderRow> for Order {
     }
 }
 
-// A type beside Stop, since its order is a row: one struct over either would make each clause name the order's type.
+// A type beside Stop, since its order is a row: one `Stop<O>` would turn Stop into `Stop Order` in every definition that names it.
 #[derive(Clone, Copy)]
 pub struct StopRow {
     pub order: OrderRow,

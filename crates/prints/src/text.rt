@@ -10,7 +10,7 @@ use std::fmt;
 use tapes::cause::Cause;
 use tapes::line::Line;
 
-// A price, as 0,05 and 20,00.
+// A price, as 0,05 and 20,00. Digit by digit, as the definition writes it.
 #[derive(Clone, Copy)]
 pub struct PriceText(pub Price);
 

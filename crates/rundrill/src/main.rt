@@ -64,7 +64,7 @@ fn spare() -> OrderRow {
     }
 }
 
-// The other drill has the same line: no crate below both prints.
+// Only the two drills say it, and they share no crate for that.
 fn verdict(first: &str, text: &str) -> &'static str {
     if first == text { "same" } else { "differs" }
 }

@@ -19,7 +19,7 @@ const PLAIN: Terms = Terms {
     minimum: 0,
 };
 
-// The number of a side in its cell.
+// The published number of a side in its cell.
 fn side_cell(side: Side) -> u64 {
     match side {
         Side::Buy => 1,
@@ -27,7 +27,7 @@ fn side_cell(side: Side) -> u64 {
     }
 }
 
-// The number of a validity in its cell.
+// The published number of a validity in its cell.
 fn validity_cell(validity: Validity) -> u64 {
     match validity {
         Validity::Day => 0,

@@ -63,9 +63,4 @@ impl<'a> Case<'a> {
         self.expected.push(text)?;
         Ok(())
     }
-
-    // The line expected at a place.
-    pub fn expected_at(&self, i: usize) -> &'a str {
-        self.expected.get(i).copied().unwrap_or("nothing")
-    }
 }

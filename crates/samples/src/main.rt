@@ -16,7 +16,7 @@ fn main(rt: HostRuntime) -> anyhow::Result<()> {
 fn run(rt: &HostRuntime) -> anyhow::Result<()> {
     let heap = rt.alloc();
     let text = io::read_to_string(heap, rt.stdin())?;
-    let mut tally = Tally::new();
+    let mut tally = Tally::default();
     let mut case = Case::new(heap, "");
     for line in text.as_str().split('\n') {
         if let Some(name) = line.strip_prefix("case ") {

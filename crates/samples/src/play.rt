@@ -21,6 +21,7 @@ pub fn play(heap: Global, case: &Case) -> Result<Vec<String>, AllocError> {
     let mut tape = Tape::new(heap, case.tape)?;
     let mut book = FrontCard::over(slot_book());
     let mut day = Day::Open(set_up(&mut book, &mut tape, 1, case.stamp));
+    // Kept till the day is taken apart: a `?` in the loop would lose it.
     let mut written = Ok(());
     for row in case.rows.as_slice() {
         let before = tape.all().len();

@@ -2,19 +2,10 @@
 use crate::case::Case;
 use crate::play::play;
 
-#[derive(Drop)]
+#[derive(Default, Drop)]
 pub struct Tally {
     pub cases: u32,
     pub differ: u32,
-}
-
-impl Tally {
-    pub fn new() -> Tally {
-        Tally {
-            cases: 0,
-            differ: 0,
-        }
-    }
 }
 
 // Plays a case, and says whether it went as expected, or where it first differed. What stands before the first case has no name.
@@ -27,8 +18,8 @@ pub fn report(rt: &HostRuntime, case: &Case, tally: &mut Tally) -> anyhow::Resul
     tally.cases = tally.cases.saturating_add(1);
     match first_difference(case, got.as_slice()) {
         Some(i) => {
-            let want = case.expected_at(i);
-            let have = got_at(got.as_slice(), i);
+            let want = expected_at(case, i).unwrap_or("nothing");
+            let have = got_at(got.as_slice(), i).unwrap_or("nothing");
             tally.differ = tally.differ.saturating_add(1);
             println!(rt; "{name}: expected {want}, got {have}")?;
         }
@@ -37,12 +28,17 @@ pub fn report(rt: &HostRuntime, case: &Case, tally: &mut Tally) -> anyhow::Resul
     Ok(())
 }
 
-// The first place where what was expected and what came differ.
+// The first place where what was expected and what came differ, or only one of them has a line.
 fn first_difference(case: &Case, got: &[String]) -> Option<usize> {
-    (0..case.expected.len().max(got.len())).find(|i| case.expected_at(*i) != got_at(got, *i))
+    (0..case.expected.len().max(got.len())).find(|i| expected_at(case, *i) != got_at(got, *i))
 }
 
-// What came at a place.
-fn got_at(got: &[String], i: usize) -> &str {
-    got.get(i).map_or("nothing", |text| text.as_str())
+// The line expected at a place.
+fn expected_at<'a>(case: &Case<'a>, i: usize) -> Option<&'a str> {
+    case.expected.get(i).copied()
+}
+
+// The line that came at a place.
+fn got_at(got: &[String], i: usize) -> Option<&str> {
+    got.get(i).map(|text| text.as_str())
 }

@@ -91,11 +91,8 @@ fn read_replies(heap: Global, text: &str) -> anyhow::Result<Vec<Reply>> {
 }
 
 fn push_replies(replies: &mut Vec<Reply>, rows: &str, answer: &str) -> anyhow::Result<()> {
-    let (first, last) = match rows.split_once('-') {
-        Some((first, last)) => (first.parse::<u16>()?, last.parse::<u16>()?),
-        None => (rows.parse::<u16>()?, rows.parse::<u16>()?),
-    };
-    for row in first..=last {
+    let (first, last) = rows.split_once('-').unwrap_or((rows, rows));
+    for row in first.parse::<u16>()?..=last.parse::<u16>()? {
         replies.push(read_reply(row, answer)?)?;
     }
     Ok(())

@@ -70,7 +70,7 @@ impl Directory {
         ensures told { result ≡ first_misplaced self bytes.now count }
         ensures within { IfSome result (λ k. k ≤ count) }
     {
-        // The pairs are no slice, and a `try_fold` that breaks off with an Err for the pair found reads no plainer.
+        // By k: the definitions and `part` name a pair by its number, and a `try_fold` that breaks off with an Err reads no plainer.
         let mut floor = self.end(count);
         for k in 0..count {
             match self.end_if_placed(bytes, k, floor) {

@@ -13,7 +13,7 @@ const SLOTS: usize = 32;
 
 #[derive(Drop)]
 pub struct SlotRow<T> {
-    slots: [Option<T>; 32],
+    slots: [Option<T>; SLOTS],
 }
 
 impl<T: Copy> SlotRow<T> {
@@ -21,7 +21,9 @@ impl<T: Copy> SlotRow<T> {
     pub fn new() -> SlotRow<T>
         ensures { held result.slots ≡ [] }
     {
-        SlotRow { slots: [None; 32] }
+        SlotRow {
+            slots: [None; SLOTS],
+        }
     }
 }
 

@@ -37,6 +37,7 @@ impl Cells {
         }
     }
 
+    // Form by form and cell by cell, as the reader of sheets does: there each cell may be refused, here none is.
     fn entry(self) -> EntryForm
         ensures { result ≡ entry_form self.values }
     {

@@ -11,7 +11,7 @@ use crate::words::{BadWord, next_word};
 use forms::form::Form;
 use sheets::letter::Letter;
 
-// Fills cells by the words from a place on.
+// Fills cells by the words from a place on, as the definition reads them: so no iterator over words.
 fn read_words(letter: Letter, line: &[u8], from: usize) -> Result<Cells, BadWord>
     requires { from ≤ length line.now }
     ensures told { MatchResult result (λ c. read_words (length line.now) letter line.now from blank_cells ≡ Ok c.values) (λ e. read_words (length line.now) letter line.now from blank_cells ≡ Err e) }

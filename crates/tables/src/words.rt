@@ -6,7 +6,7 @@ ghost use Rattle.tables.specs.Words.{takes, next_word, bad_word};
 
 use sheets::bytes::{bytes_from, part_of};
 
-// What a run of bytes is made of.
+// What a run of bytes is made of. By kind, not by a closure: the definitions name each run.
 #[derive(Clone, Copy)]
 pub(crate) enum Run {
     Spaces,
@@ -14,7 +14,7 @@ pub(crate) enum Run {
     Name,
 }
 
-// Where a word lies in its line. Start and size, not a slice: a word that spoils its line is told by its place.
+// Where a word lies in its line. Start and size, not a slice: the definitions name a word by its place and size.
 #[derive(Clone, Copy)]
 pub(crate) struct Word {
     pub(crate) start: usize,

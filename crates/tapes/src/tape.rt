@@ -4,7 +4,7 @@ ghost use Rattle.std.specs.Prelude.{◌≤◌, vec_len, vec_capacity};
 use crate::line::Line;
 
 // The lines written so far, at most `limit`, for which memory is held from the start.
-// No one type for this and for the list of replies: only a slip adds a reply, so that list would hand on each call.
+// Not one type with the list of replies: only a slip adds a reply, so a shared list would be wrapped there, call by call.
 #[derive(Drop)]
 pub struct Tape {
     lines: Vec<Line>,

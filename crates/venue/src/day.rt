@@ -1,5 +1,6 @@
 // Open and closed days: neither can be lost, and neither can be used twice.
-// Two types of the same fields, so that a step of an open day is not built on a closed one.
+// Two types of the same fields, so that a step of an open day is not built on a closed one. Book and tape are lent to each
+// step side by side, not held by the day: the form that the owner named, here and in the calls above.
 use matching::clock::Clock;
 
 pub struct OpenDay {

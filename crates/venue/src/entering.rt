@@ -39,6 +39,7 @@ fn entry_told<B: Book>(
     Ok(asked)
 }
 
+// Every step of an open day matches on what was told in this way: each has its own form, and does its own.
 impl OpenDay {
     // An order or stop is entered.
     pub fn enter<B: Book>(

@@ -41,6 +41,7 @@ impl Claim {
         orders_in(book, queue).any(|order| self.is_held_by(order))
     }
 
+    // The four queues by name and in their order, as the definition has them.
     fn is_held<B: Book>(self, book: &B) -> bool
         ensures { result ≡ client_held self.firm self.client self.except (B.queues book.now) }
     {

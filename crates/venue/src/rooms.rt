@@ -19,7 +19,7 @@ fn count<B: Book>(book: &B, queue: Queue) -> usize
     book.size(queue).0
 }
 
-// Twenty lines or stamps for each record and one more.
+// Twenty lines or stamps for each record and one more. The four queues by name, as the definition has them.
 fn needed<B: Book>(book: &B) -> usize
     ensures { result ≡ needed (B.queues book.now) }
 {

@@ -24,20 +24,7 @@ pub(super) fn over(held: Option<Record>, first: Option<Record>) -> Option<Record
     }
 }
 
-// One for each kind of row: a trait for the two would be longer than both.
-fn standing(row: OrderRow) -> Record
-    ensures { result ≡ Standing (order_of row) }
-{
-    Record::Standing(Order::from(row))
-}
-
-fn waiting(row: StopRow) -> Record
-    ensures { result ≡ Waiting (stop_of row) }
-{
-    Record::Waiting(Stop::from(row))
-}
-
-// That the book below stays stands with each call that writes: it is no fact about a card, but about two of them.
+// Four plain rows beside the book below, as the owner named: that it stays is said by each call that writes.
 impl<B> FrontCard<B> {
     // The record that is held over a queue.
     pub(super) fn held(&self, queue: Queue) -> Option<Record>
@@ -45,10 +32,10 @@ impl<B> FrontCard<B> {
         ensures there { (x : Kind) → result ≡ Some x → queue_of x ≡ queue }
     {
         match queue {
-            Queue::Orders(Side::Buy) => self.bid.map(standing),
-            Queue::Orders(Side::Sell) => self.offer.map(standing),
-            Queue::Stops(Side::Buy) => self.buy.map(waiting),
-            Queue::Stops(Side::Sell) => self.sell.map(waiting),
+            Queue::Orders(Side::Buy) => self.bid.map(Record::from),
+            Queue::Orders(Side::Sell) => self.offer.map(Record::from),
+            Queue::Stops(Side::Buy) => self.buy.map(Record::from),
+            Queue::Stops(Side::Sell) => self.sell.map(Record::from),
         }
     }
 

@@ -4,9 +4,5 @@ use Rattle.venue.specs.declared.day.Day.TheVariants.{Open}
 use Rattle.laws.proofs.Running.{upheld}
 use Rattle.laws.proofs.days.enter.Goals as goal
 
-pub returns : goal.returns
-returns g c = record {
-  told = c.enter.ensures.told;
-  left = c.enter.ensures.left;
-  upheld = upheld (Entry c.args.form) (state (g.B.Book.queues c.args.book.now) c.args.tape.now (Open c.args.day));
-}
+pub returns-clause-upheld : goal.returns-clause-upheld
+returns-clause-upheld g c = upheld (Entry c.args.form) (state (g.B.Book.queues c.args.book.now) c.args.tape.now (Open c.args.day))

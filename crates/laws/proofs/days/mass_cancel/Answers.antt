@@ -4,9 +4,5 @@ use Rattle.venue.specs.declared.day.Day.TheVariants.{Open}
 use Rattle.laws.proofs.Running.{upheld}
 use Rattle.laws.proofs.days.mass_cancel.Goals as goal
 
-pub returns : goal.returns
-returns g c = record {
-  told = c.mass_cancel.ensures.told;
-  left = c.mass_cancel.ensures.left;
-  upheld = upheld (MassCancel c.args.form) (state (g.B.Book.queues c.args.book.now) c.args.tape.now (Open c.args.day));
-}
+pub returns-clause-upheld : goal.returns-clause-upheld
+returns-clause-upheld g c = upheld (MassCancel c.args.form) (state (g.B.Book.queues c.args.book.now) c.args.tape.now (Open c.args.day))

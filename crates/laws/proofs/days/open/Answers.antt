@@ -4,8 +4,5 @@ use Rattle.venue.specs.declared.day.Day.TheVariants.{Closed}
 use Rattle.laws.proofs.Running.{upheld}
 use Rattle.laws.proofs.days.open.Goals as goal
 
-pub returns : goal.returns
-returns g c = record {
-  told = c.«open».ensures;
-  upheld = upheld (Opening c.args.form) (state (g.B.Book.queues c.args.book.now) c.args.tape.now (Closed c.args.day));
-}
+pub returns-clause-upheld : goal.returns-clause-upheld
+returns-clause-upheld g c = upheld (Opening c.args.form) (state (g.B.Book.queues c.args.book.now) c.args.tape.now (Closed c.args.day))
