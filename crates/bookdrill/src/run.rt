@@ -77,7 +77,7 @@ fn rewrite<B: Book, F: FnOnce(Order) -> Order>(
     }
 }
 
-// The drill's own names: so no Display of Queue.
+// The drill's own names: a Display in books would print a drill's words.
 fn name(queue: Queue) -> &'static str {
     match queue {
         Queue::Orders(Side::Buy) => "bid",

@@ -12,7 +12,7 @@ use orders::order::{Order, Stop};
 use orders::ranked::Ranked;
 use orders::row::{OrderRow, StopRow};
 
-// A plain row that stands for an item.
+// A plain row that stands for an item. Both ways go by From; the trait has them to tie them to its laws.
 pub trait Kept: Ranked {
     type Item;
 

@@ -24,7 +24,7 @@ pub trait Lane {
     fn find(&self, number: u32) -> Option<usize>
         ensures { result ≡ first_number Self.Row.Numbered.num number (run self.now).rows };
 
-    // The row goes before the first that ranks behind it, or last; false where the lane is full.
+    // The row goes before the first that ranks behind it, or last; false where the lane is full. A bool: there is one reason.
     fn put(&mut self, x: Self::Row) -> bool
         ensures told { result ≡ nat_lt (length (run self.old).rows) (run self.old).space }
         ensures left { (run self.new).rows ≡ (if result then put_in Self.Row.Ranked.place x (run self.old).rows else (run self.old).rows) }

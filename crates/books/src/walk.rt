@@ -45,6 +45,7 @@ impl<'a, B: Book> Iterator for Walk<'a, B> {
 
     fn next(&mut self) -> Option<Order> {
         let order = order_at(self.book, self.queue, self.place)?;
+        // (the iterator's own place: a book is looked at by number)
         self.place += 1;
         Some(order)
     }

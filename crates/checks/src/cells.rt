@@ -61,6 +61,8 @@ pub(crate) fn filled<C>(at: u8, cell: Option<C>) -> Result<C, Refusal>
     cell.ok_or(Refusal::WrongBlank { cell: at })
 }
 
+// Two of one line: a generic one would have to say in its clause what try_from gave.
+
 pub fn side_in(at: u8, value: u64) -> Result<Side, Refusal>
     ensures { result ≡ side_in at value }
 {

@@ -70,8 +70,7 @@ fn kind_of(kind: OrderType, price: Option<Price>, trigger: Option<Price>) -> Res
     }
 }
 
-// Every cell within its range; a blank one reads 0 where a number is wanted.
-// Blanks were refused before: here a blank reads 0, as in the definition.
+// Every cell within its range. Cells that must be filled were refused blank before; any blank one reads 0, as in the definition.
 fn typed_entry(form: EntryForm) -> Result<Asked, Refusal>
     ensures { result ≡ typed_entry form }
 {

@@ -1,4 +1,4 @@
-// One row: whatever comes of it, its reply is posted.
+// One row: whatever comes of it, its reply is posted. Book, tape and replies are lent side by side, as to every step.
 ghost use Rattle.std.specs.Prelude.{◌≡◌};
 ghost use Rattle.venue.specs.Days.{state};
 ghost use Rattle.desk.specs.Desks.{desk, row_done};

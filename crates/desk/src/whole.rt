@@ -1,4 +1,4 @@
-// A whole sheet.
+// A whole sheet. Book, tape and replies are lent side by side, as to every step.
 ghost use Rattle.std.specs.Prelude.{◌≡◌, Some, None, MatchResult};
 ghost use Rattle.std.specs.Option.{option_map};
 ghost use Rattle.venue.specs.Days.{state};

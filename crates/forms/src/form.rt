@@ -1,5 +1,5 @@
 // The forms of the six steps: each cell has a value or is blank.
-// Side, type and validity are numbers here as in the published format: whether they name any is checked later, under 8.
+// Side, type and validity are numbers here as in the published format: whether they name any is checked later, with refusal 8.
 use orders::price::Price;
 
 #[derive(Clone, Copy)]

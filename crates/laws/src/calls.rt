@@ -1,4 +1,5 @@
 // Setting up, a step and a whole run, with the laws in their contracts: the calls that the desk and the program make.
+// Book and tape are lent to each, side by side: the form that the owner named.
 ghost use Rattle.std.specs.Prelude.{◌≡◌};
 ghost use Rattle.tapes.specs.Reels.{reel};
 ghost use Rattle.venue.specs.Days.{state, set_up, at_least_1, answer, step};

@@ -1,4 +1,4 @@
-// The steps of a day whose state is in its type, with the laws in their contracts.
+// The steps of a day whose state is in its type, with the laws in their contracts. Book and tape are lent to each.
 ghost use Rattle.std.specs.Prelude.{◌≡◌};
 ghost use Rattle.forms.specs.declared.form.Form.TheVariants.{Entry, Change, Cancel, MassCancel, Closing, Opening};
 ghost use Rattle.venue.specs.Days.{state, answer, step, Closes, Opens};

@@ -16,7 +16,7 @@ pub enum Kind {
     StopLimit { limit: Price, trigger: Price },
 }
 
-// Disclosed, minimum and investor are 0 for none, as in an order.
+// Disclosed, minimum and investor are 0 for none, as in the published cells.
 #[derive(Clone, Copy)]
 pub struct Asked {
     pub firm: u16,

@@ -49,7 +49,7 @@ fn recall<B: Book>(
     let _ = clock.draw();
 }
 
-// The order that stands at a place of a side is changed.
+// The order that stands at a place of a side is changed. Its place and itself are given side by side, as a look has told them.
 pub fn change<B: Book>(
     book: &mut B,
     tape: &mut Tape,

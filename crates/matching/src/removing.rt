@@ -13,7 +13,7 @@ use orders::side::Side;
 use tapes::cause::Cause;
 use tapes::tape::Tape;
 
-// The record at a place is removed.
+// The record at a place is removed. Where it lies and what it is are given side by side, as a look has told them.
 pub fn pull<B: Book>(
     book: &mut B,
     tape: &mut Tape,

@@ -17,7 +17,7 @@ pub enum Validity {
     Fok,
 }
 
-// A number that stands for no side, or for no validity.
+// A number that stands for none of the values of a kind.
 #[derive(Clone, Copy, Debug, PartialEq, Eq)]
 pub struct UnknownCode(pub u64);
 

@@ -19,7 +19,7 @@ const PLAIN: Terms = Terms {
     minimum: 0,
 };
 
-// The published number of a side in its cell.
+// The published number of a side in its cell. Only tests write cells, so there is no From for it.
 fn side_cell(side: Side) -> u64 {
     match side {
         Side::Buy => 1,
@@ -37,20 +37,42 @@ fn validity_cell(validity: Validity) -> u64 {
     }
 }
 
-fn with(firm: u64, client: u64, side: Side, quantity: u64, hundredths: u32, terms: Terms) -> Form {
-    Form::Entry(EntryForm {
+const BLANK: EntryForm = EntryForm {
+    firm: None,
+    client: None,
+    side: None,
+    kind: None,
+    validity: None,
+    price: None,
+    trigger: None,
+    quantity: None,
+    disclosed: None,
+    minimum: None,
+    investor: None,
+    tag: None,
+};
+
+// What every entry says; its type and what hangs on that are left blank.
+fn entry(firm: u64, client: u64, side: Side, quantity: u64, validity: Validity) -> EntryForm {
+    EntryForm {
         firm: Some(firm),
         client: Some(client),
         side: Some(side_cell(side)),
-        kind: Some(b'2'),
-        validity: Some(validity_cell(terms.validity)),
-        price: Some(Price { hundredths }),
-        trigger: None,
+        validity: Some(validity_cell(validity)),
         quantity: Some(quantity),
+        ..BLANK
+    }
+}
+
+fn with(firm: u64, client: u64, side: Side, quantity: u64, hundredths: u32, terms: Terms) -> Form {
+    Form::Entry(EntryForm {
+        kind: Some(b'2'),
+        price: Some(Price { hundredths }),
         disclosed: Some(terms.disclosed),
         minimum: Some(terms.minimum),
         investor: Some(terms.investor),
         tag: Some(0),
+        ..entry(firm, client, side, quantity, terms.validity)
     })
 }
 
@@ -61,38 +83,20 @@ fn plain(firm: u64, client: u64, side: Side, quantity: u64, hundredths: u32) -> 
 // A market order, whose leftover is a limit order.
 fn market(firm: u64, client: u64, side: Side, quantity: u64) -> Form {
     Form::Entry(EntryForm {
-        firm: Some(firm),
-        client: Some(client),
-        side: Some(side_cell(side)),
         kind: Some(b'K'),
-        validity: Some(validity_cell(Validity::Day)),
-        price: None,
-        trigger: None,
-        quantity: Some(quantity),
-        disclosed: None,
-        minimum: None,
-        investor: None,
-        tag: None,
+        ..entry(firm, client, side, quantity, Validity::Day)
     })
 }
 
 // A stop that lasts until it is cancelled.
 fn stop(firm: u64, client: u64, side: Side, quantity: u64, trigger: u32, hundredths: u32) -> Form {
     Form::Entry(EntryForm {
-        firm: Some(firm),
-        client: Some(client),
-        side: Some(side_cell(side)),
         kind: Some(b'4'),
-        validity: Some(validity_cell(Validity::Gtc)),
         price: Some(Price { hundredths }),
         trigger: Some(Price {
             hundredths: trigger,
         }),
-        quantity: Some(quantity),
-        disclosed: None,
-        minimum: None,
-        investor: None,
-        tag: None,
+        ..entry(firm, client, side, quantity, Validity::Gtc)
     })
 }
 

@@ -33,7 +33,7 @@ fn digits_of(cell: &[u8], most: usize) -> &[u8]
     &start[..digit_count(start)]
 }
 
-// The number that digits write.
+// The number that digits write. By a loop: what a fold asks of its closure would need a longer proof.
 fn number_of(digits: &[u8]) -> u64
     requires few { length digits.now ≤ 12 }
     requires all { AllDigits 10 digits.now }

@@ -4,6 +4,7 @@ ghost use Rattle.sheets.specs.Layout.{part_at, offset_at, length_at, ends_at, pl
 
 use super::bytes::{byte_at, part_of, word_at};
 
+// Two kinds of one directory, by an enum and not by a trait: the definitions name the kind.
 // What a directory's pairs name; they have two bytes a number in a sheet and one in a row.
 #[derive(Clone, Copy)]
 pub(crate) enum Directory {

@@ -6,7 +6,7 @@ ghost use Rattle.sheets.specs.Letters.{letter_of, cells_of};
 use forms::refusal::Refusal;
 
 // What a row asks for.
-#[derive(Clone, Copy, Debug, PartialEq, Eq, Hash)]
+#[derive(Clone, Copy, Debug, PartialEq, Eq)]
 pub enum Letter {
     Entry,
     Change,

@@ -6,7 +6,7 @@ use forms::refusal::Refusal;
 
 // The numbers of the published reply, and not the refusal itself, since this is what is printed and compared.
 // Row and cell count from 1; number is 0 where the row was accepted, and cell and place are 0 where there is none.
-#[derive(Clone, Copy, Debug, PartialEq, Eq, Hash)]
+#[derive(Clone, Copy, Debug, PartialEq, Eq)]
 pub struct Reply {
     pub row: u16,
     pub number: u8,

@@ -13,7 +13,7 @@ const MOST_ROWS: u16 = 512;
 const MOST_BYTES: usize = 65535;
 
 // A sheet's bytes, how many rows it has, and how many were handed out.
-// `done` is counted beside the bytes: the format's directory is walked where it lies, by a reader over the input slice.
+// `done` is counted beside the bytes: a reader over the input slice, which walks the directory where it lies, is the form that the owner named. No Iterator: what is drawn must be used up.
 #[derive(Drop)]
 pub struct Sheet<'a> {
     bytes: &'a [u8],

@@ -11,7 +11,7 @@ use orders::ranked::Ranked;
 // The largest capacity of a queue.
 const MOST: usize = 1_000_000;
 
-// The count stands beside the slice, since who borrows a slice cannot make it shorter.
+// The count stands beside the slice, since who borrows a slice cannot make it shorter: the form that the owner named.
 #[derive(Drop)]
 pub struct RankedRow<'a, T> {
     rows: &'a mut [T],

@@ -5,7 +5,7 @@ ghost use Rattle.tables.specs.Columns.{columns, column_of, letter_word};
 
 use sheets::letter::Letter;
 
-// How the value of a cell is written.
+// How the value of a cell is written. By kind, not by a closure: the definitions name each kind.
 #[derive(Clone, Copy)]
 pub(crate) enum Kind {
     Number,

@@ -13,7 +13,7 @@ pub(crate) enum Value {
     Price(Price),
 }
 
-// The number that the cell of a sheet has for the word.
+// The published number that the cell of a sheet has for the word; the step reads it later.
 fn side_word(bytes: &[u8]) -> Option<u64>
     ensures { result ≡ side_word bytes.now }
 {

@@ -11,7 +11,7 @@ use matching::clock::Clock;
 use orders::side::Side;
 use tapes::tape::Tape;
 
-// How many records a queue holds.
+// How many records a queue holds. That it is small is said here for the sum of four.
 fn count<B: Book>(book: &B, queue: Queue) -> usize
     ensures told { result ≡ count queue (B.queues book.now) }
     ensures small { result ≤ 1000000 }
