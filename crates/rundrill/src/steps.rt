@@ -52,7 +52,7 @@ const BLANK: EntryForm = EntryForm {
     tag: None,
 };
 
-// What every entry says; its type and what hangs on that are left blank.
+// What every entry says; its type and what hangs on that are left blank. By parameters: a step reads as a row of a table.
 fn entry(firm: u64, client: u64, side: Side, quantity: u64, validity: Validity) -> EntryForm {
     EntryForm {
         firm: Some(firm),
