@@ -1,6 +1,6 @@
 -- What a book means: four queues of fixed capacity, and what each call answers and leaves.
-use Rattle.std.specs.Prelude.{ℕ, ◌≤◌, Bool, cond, List, [], length, map, is_some, Some, None, Option, Result, Ok, Err, ⊤, nat_lt, slice_set}
-use Rattle.std.specs.List.{remove, slice_get}
+use Rattle.std.specs.Prelude.{ℕ, ◌≤◌, ◌==◌, ◌&&◌, Bool, cond, List, [], length, map, is_some, Some, None, Option, Result, Ok, Err, ⊤, nat_lt, slice_set}
+use Rattle.std.specs.List.{remove, slice_get, list_any}
 use Rattle.std.specs.Option.{option_map, option_or}
 use Rattle.orders.specs.declared.side.Side.{Side}
 use Rattle.orders.specs.declared.side.Side.TheVariants.{Buy, Sell}
@@ -58,6 +58,7 @@ rank_of o = order_rank (row_of o)
 abbrev pub stop_rank_of : Stop → Rank
 stop_rank_of x = stop_rank (stop_row_of x)
 
+-- how a record ranks in its queue
 abbrev pub record_rank : Record → Rank
 record_rank (Standing o) = rank_of o
 record_rank (Waiting x) = stop_rank_of x
@@ -137,6 +138,14 @@ order_of_record (Waiting x) = x.order
 abbrev pub orders_in : Queue → Queues → List Order
 orders_in (Orders s) q = at s q.stands
 orders_in (Stops s) q = map (λ (x : Stop). x.order) (at s q.waits)
+
+-- what a firm knows by a client number, read by what tells the two
+abbrev pub owned : {X : Type 0} → (X → ℕ) → (X → ℕ) → (firm client : ℕ) → X → Bool
+owned firms clients firm client x = firms x == firm && clients x == client
+
+-- whether an order of a queue has a firm's client number
+abbrev pub is_held : (firm client : ℕ) → Queue → Queues → Bool
+is_held firm client n q = list_any (owned (λ (o : Order). o.firm) (λ (o : Order). o.client) firm client) (orders_in n q)
 
 -- the order, or the stop, in what a look tells
 abbrev pub order_in : Option Record → Option Order

@@ -1,6 +1,6 @@
 // What a book is: four queues, and seven functions over them.
-ghost use Rattle.std.specs.Prelude.{◌≡◌, ℕ};
-ghost use Rattle.books.specs.Model.{Queues, Bounded, count, room, look_at, found, put_answer, after_put, rewrite_fits, rewritten, taken, cleared};
+ghost use Rattle.std.specs.Prelude.{◌≡◌, ℕ, true};
+ghost use Rattle.books.specs.Model.{Queues, Bounded, count, room, look_at, found, put_answer, after_put, rewrite_fits, rewritten, taken, cleared, is_held};
 
 use crate::queue::{PutError, Queue, Record};
 
@@ -36,6 +36,13 @@ pub trait Book {
 
     fn clear(&mut self)
         ensures { queues self.new ≡ cleared (queues self.old) };
+
+    // Whether a queue may hold a firm's client number. Not one of the seven: whoever knows no better says that it may.
+    fn may_hold(&self, queue: Queue, firm: u16, client: u32) -> bool
+        ensures { is_held firm client queue (queues self.now) ≡ true → result ≡ true }
+    {
+        true
+    }
 
     // No count passes its capacity, and no capacity a million.
     ghost bounded: { (b : Self) → Bounded (queues b) };

@@ -95,6 +95,7 @@ pub fn size_of<T: Kept, L: Lane<Row = T>>(lane: &L) -> (usize, usize)
     lane.size()
 }
 
+#[inline(always)]
 pub fn item_at<T: Kept, L: Lane<Row = T>>(lane: &L, at: usize) -> Option<T::Item>
     ensures { result ≡ slice_get (map T.Kept.item (L.Lane.run lane.now).rows) at }
 {

@@ -1,7 +1,8 @@
-// What a lane is: plain rows in order, and seven functions over them.
-ghost use Rattle.std.specs.Prelude.{◌≡◌, [], length, if◌then◌else◌, nat_lt, slice_set};
-ghost use Rattle.std.specs.List.{slice_get, remove};
+// What a lane is: plain rows in order, and seven functions over them; besides, a question that it may leave open.
+ghost use Rattle.std.specs.Prelude.{◌≡◌, true, [], length, if◌then◌else◌, nat_lt, slice_set};
+ghost use Rattle.std.specs.List.{slice_get, remove, list_any};
 ghost use Rattle.books.specs.Lists.{put_in, first_number};
+ghost use Rattle.books.specs.Model.{owned};
 ghost use Rattle.books.specs.Runs.{Run};
 
 use orders::ranked::Ranked;
@@ -40,6 +41,13 @@ pub trait Lane {
         ensures told { result ≡ slice_get (run self.old).rows at }
         ensures left { (run self.new).rows ≡ remove (run self.old).rows at }
         ensures same { (run self.new).space ≡ (run self.old).space };
+
+    // Whether a row may have a firm's client number; a lane that knows no better says that it may.
+    fn may_hold(&self, firm: u16, client: u32) -> bool
+        ensures { list_any (owned Self.Row.Numbered.firm Self.Row.Numbered.client firm client) (run self.now).rows ≡ true → result ≡ true }
+    {
+        true
+    }
 
     // No row stays.
     fn clear(&mut self)

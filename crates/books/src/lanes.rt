@@ -35,6 +35,7 @@ impl<O: Lane<Row = OrderRow>, S: Lane<Row = StopRow>> Book for Lanes<O, S> {
         }
     }
 
+    #[inline(always)]
     fn look(&self, queue: Queue, at: usize) -> Option<Record> {
         match queue {
             Queue::Orders(Side::Buy) => item_at(&self.bids, at).map(Record::Standing),
@@ -92,6 +93,16 @@ impl<O: Lane<Row = OrderRow>, S: Lane<Row = StopRow>> Book for Lanes<O, S> {
             Queue::Orders(Side::Sell) => take_item(&mut self.offers, at).map(Record::Standing),
             Queue::Stops(Side::Buy) => take_item(&mut self.buys, at).map(Record::Waiting),
             Queue::Stops(Side::Sell) => take_item(&mut self.sells, at).map(Record::Waiting),
+        }
+    }
+
+    #[tactic(auto, using(crate::proofs::Mapped::any_map))]
+    fn may_hold(&self, queue: Queue, firm: u16, client: u32) -> bool {
+        match queue {
+            Queue::Orders(Side::Buy) => self.bids.may_hold(firm, client),
+            Queue::Orders(Side::Sell) => self.offers.may_hold(firm, client),
+            Queue::Stops(Side::Buy) => self.buys.may_hold(firm, client),
+            Queue::Stops(Side::Sell) => self.sells.may_hold(firm, client),
         }
     }
 

@@ -7,6 +7,7 @@ use orders::order::{Order, Stop};
 
 impl Record {
     // The order that stands, or that the stop would bring into force.
+    #[inline(always)]
     pub fn order(self) -> Order
         ensures { result ≡ order_of_record self }
     {
@@ -18,6 +19,7 @@ impl Record {
 }
 
 // The order in what a look tells.
+#[inline(always)]
 pub fn order_in(seen: Option<Record>) -> Option<Order>
     ensures { result ≡ order_in seen }
 {
@@ -28,6 +30,7 @@ pub fn order_in(seen: Option<Record>) -> Option<Order>
 }
 
 // The stop in what a look tells.
+#[inline(always)]
 pub fn stop_in(seen: Option<Record>) -> Option<Stop>
     ensures { result ≡ stop_in seen }
 {

@@ -2,7 +2,7 @@
 ghost use Rattle.std.specs.Prelude.{◌≡◌};
 ghost use Rattle.orders.specs.Rows.{order_of, stop_of};
 ghost use Rattle.books.specs.declared.queue.Record.TheVariants.{Standing, Waiting};
-ghost use Rattle.books.specs.Model.{queue_of, number_of, record_rank};
+ghost use Rattle.books.specs.Model.{queue_of, number_of, order_of_record, record_rank};
 ghost use Rattle.orders.specs.RanksLemmas.{before_apart, before_chain, before_settled};
 
 use orders::order::{Order, Stop};
@@ -63,11 +63,23 @@ impl From<StopRow> for Record {
 impl Numbered for Record {
     ghost num = { number_of };
 
+    ghost firm = { λ r. (order_of_record r).firm };
+
+    ghost client = { λ r. (order_of_record r).client };
+
     fn number(&self) -> u32 {
         match *self {
             Record::Standing(o) => o.number,
             Record::Waiting(x) => x.order.number,
         }
+    }
+
+    fn firm(&self) -> u16 {
+        self.order().firm
+    }
+
+    fn client(&self) -> u32 {
+        self.order().client
     }
 }
 

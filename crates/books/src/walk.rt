@@ -30,6 +30,7 @@ pub fn orders_in<B: Book>(book: &B, queue: Queue) -> Walk<'_, B>
 }
 
 // The order at a place of a queue, that of a stop too.
+#[inline(always)]
 fn order_at<B: Book>(book: &B, queue: Queue, place: usize) -> Option<Order>
     ensures { result ≡ slice_get (orders_in queue (B.queues book.now)) place }
 {
@@ -43,6 +44,7 @@ impl<'a, B: Book> Iterator for Walk<'a, B> {
 
     ghost remaining = { item_count (left B.queues) };
 
+    #[inline(always)]
     fn next(&mut self) -> Option<Order> {
         let order = order_at(self.book, self.queue, self.place)?;
         // (the iterator's own place: a book is looked at by number)

@@ -23,6 +23,7 @@ pub fn is_ripe(side: Side, last: Option<Price>, trigger: Price) -> bool
 }
 
 // A side's first stop, if it is ripe.
+#[inline(always)]
 fn ripe_first<B: Book>(book: &B, side: Side, last: Option<Price>) -> Option<Stop>
     ensures { result ≡ if_ripe side last (first_stop side (B.queues book.now)) }
 {

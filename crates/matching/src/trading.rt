@@ -29,6 +29,7 @@ pub fn cancelled(order: Order, cause: Cause) -> Line
 }
 
 // The order that stands first on a side.
+#[inline(always)]
 pub fn first_order<B: Book>(book: &B, side: Side) -> Option<Order>
     ensures { result ≡ first_order side (B.queues book.now) }
 {

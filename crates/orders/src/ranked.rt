@@ -1,4 +1,4 @@
-// What has a number, and what has a rank besides.
+// What has a number and an owner, and what has a rank besides.
 ghost use Rattle.std.specs.Prelude.{◌≡◌, ℕ, true, false};
 ghost use Rattle.orders.specs.declared.rank.Rank.{Rank as Place};
 ghost use Rattle.orders.specs.Ranks.{before, order_key, order_rank, stop_rank};
@@ -9,11 +9,22 @@ use crate::rank::Rank;
 use crate::row::{OrderRow, StopRow};
 use crate::side::Side;
 
+// A firm knows what it owns by a client number.
 pub trait Numbered {
     ghost num: { Self → ℕ };
 
+    ghost firm: { Self → ℕ };
+
+    ghost client: { Self → ℕ };
+
     fn number(&self) -> u32
         ensures { result ≡ num self.now };
+
+    fn firm(&self) -> u16
+        ensures { result ≡ firm self.now };
+
+    fn client(&self) -> u32
+        ensures { result ≡ client self.now };
 }
 
 // Nothing ranks ahead of itself, ranking ahead carries along a chain, and of two different ranks one is ahead.
@@ -43,8 +54,20 @@ fn key(side: Side, price: Price) -> u32
 impl Numbered for OrderRow {
     ghost num = { λ r. r.number };
 
+    ghost firm = { λ r. r.firm };
+
+    ghost client = { λ r. r.client };
+
     fn number(&self) -> u32 {
         self.number
+    }
+
+    fn firm(&self) -> u16 {
+        self.firm
+    }
+
+    fn client(&self) -> u32 {
+        self.client
     }
 }
 
@@ -69,8 +92,20 @@ impl Ranked for OrderRow {
 impl Numbered for StopRow {
     ghost num = { λ r. r.order.number };
 
+    ghost firm = { λ r. r.order.firm };
+
+    ghost client = { λ r. r.order.client };
+
     fn number(&self) -> u32 {
         self.order.number
+    }
+
+    fn firm(&self) -> u16 {
+        self.order.firm
+    }
+
+    fn client(&self) -> u32 {
+        self.order.client
     }
 }
 

@@ -27,6 +27,7 @@ pub struct OrderRow {
 
 impl OrderRow {
     // Whether the row keeps the bounds of an order.
+    #[inline(always)]
     pub fn fits(self) -> bool
         ensures { result ≡ fits self }
     {
@@ -45,6 +46,7 @@ impl OrderRow {
     }
 
     // The row as it lies within the bounds; outside them one lot, all of it shown, the rest as it lies.
+    #[inline(always)]
     fn sound(self) -> OrderRow
         ensures value { result ≡ cut (keeps self) self }
         ensures fits { Fits result }
@@ -89,6 +91,7 @@ impl From<Order> for OrderRow {
 impl From<OrderRow> for Order {
     ghost from_gives = { λ r o. o ≡ order_of r };
 
+    #[inline(always)]
     fn from(row: OrderRow) -> Order {
         let row = row.sound();
         Order {
@@ -132,6 +135,7 @@ impl From<Stop> for StopRow {
 impl From<StopRow> for Stop {
     ghost from_gives = { λ r s. s ≡ stop_of r };
 
+    #[inline(always)]
     fn from(row: StopRow) -> Stop {
         Stop {
             order: Order::from(row.order),

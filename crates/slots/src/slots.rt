@@ -25,11 +25,11 @@ pub fn slot_of<T: Copy>(slots: &[Option<T>], at: usize) -> Option<usize>
         .nth(at)
 }
 
-// The record at a place.
+// The record at a place: one is copied, and not those before it.
 pub fn look_in<T: Copy>(slots: &[Option<T>], at: usize) -> Option<T>
     ensures { result ≡ slice_get (held slots.now) at }
 {
-    slots.iter().filter_map(|s| *s).nth(at)
+    slots[slot_of(slots, at)?]
 }
 
 // The place of the first record with a number.

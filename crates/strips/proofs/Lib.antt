@@ -1,1 +1,4 @@
+pub mod Turned
 pub mod Capped
+pub mod Each
+pub mod Coverage

@@ -1,25 +1,26 @@
 -- What a ranked row means: its records are the first `count` of the lent slice, of which a million places at most are used.
-use Rattle.std.specs.Prelude.{ℕ, ◌≤◌, min, List, length, take}
+use Rattle.std.specs.Prelude.{ℕ, ◌≤◌, min, List, length}
 use Rattle.std.proofs.Common.{arith}
-use Rattle.std.proofs.lemmas.List.{length-take}
+use Rattle.std.proofs.lemmas.List.{length-take, length-reverse}
+use Rattle.orders.specs.declared.ranked.Numbered.{Ghosts}
 use Rattle.books.specs.Runs.{Run}
+use Rattle.strips.specs.Front.{front, ranked}
 use Rattle.strips.specs.declared.row.RankedRow.{RankedRow}
 
--- the first so many, of so many places at most
-abbrev pub front : {X : Type 0} → ℕ → ℕ → List X → List X
-front count most xs = take count (take most xs)
-
-pub front_within : {X : Type 0} (count most : ℕ) (xs : List X) → length (front count most xs) ≤ min most (length xs)
+front_within : {X : Type 0} (count most : ℕ) (xs : List X) → length (front count most xs) ≤ min most (length xs)
 front_within count most xs = simp length-take (omega arith)
 
+pub ranked_within : {X : Type 0} (count : ℕ) (xs : List X) → length (ranked count xs) ≤ min 1000000 (length xs)
+ranked_within count xs = rw length-reverse (front_within count 1000000 xs)
+
 -- the places of its slice
-abbrev pub places : {X : Type 0} → RankedRow X → ℕ
+abbrev pub places : {X : Type 0} {n : Ghosts X} → RankedRow X n → ℕ
 places r = length r.rows.now
 
-abbrev pub strip_run : {X : Type 0} → RankedRow X → Run X
+abbrev pub strip_run : {X : Type 0} {n : Ghosts X} → RankedRow X n → Run X
 strip_run r = record {
-  rows = front r.count 1000000 r.rows.now;
+  rows = ranked r.count r.rows.now;
   space = min 1000000 (length r.rows.now);
-  within = front_within r.count 1000000 r.rows.now;
+  within = ranked_within r.count r.rows.now;
   few = omega arith;
 }

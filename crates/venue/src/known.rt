@@ -38,7 +38,8 @@ impl Claim {
     fn is_held_in<B: Book>(self, book: &B, queue: Queue) -> bool
         ensures { result ≡ held_in self.firm self.client self.except queue (B.queues book.now) }
     {
-        orders_in(book, queue).any(|order| self.is_held_by(order))
+        book.may_hold(queue, self.firm, self.client)
+            && orders_in(book, queue).any(|order| self.is_held_by(order))
     }
 
     // The four queues by name and in their order, as the definition has them.

@@ -1,0 +1,102 @@
+// A ranked row as a lane.
+ghost use Rattle.std.specs.Prelude.{◌≡◌, ◌≤◌, min, [], length, take, reverse};
+ghost use Rattle.strips.specs.Rows.{places, strip_run};
+
+use super::RankedRow;
+use super::places::{find_in, insert_in, look_in, remove_in, write_in};
+use crate::seen::Seen;
+use books::lane::Lane;
+use orders::ranked::Ranked;
+
+// The largest capacity of a queue.
+const MOST: usize = 1_000_000;
+
+impl<'a, T: Ranked + Copy> RankedRow<'a, T> {
+    // An empty row over a slice, whatever lies in it.
+    pub fn over(rows: &'a mut [T]) -> RankedRow<'a, T>
+        ensures left { (strip_run result).rows ≡ [] }
+        ensures room { (strip_run result).space ≡ min 1000000 (length rows.old) }
+    {
+        RankedRow {
+            rows,
+            count: 0,
+            seen: Seen::nothing(),
+        }
+    }
+
+    // How many records the row can hold.
+    fn room(&self) -> usize
+        ensures is { result ≡ (strip_run self.now).space }
+        ensures within { result ≤ places self.now }
+    {
+        MOST.min(self.rows.len())
+    }
+
+    // How many records stand in the row. Cut to the room at each use, so that the row needs no fact about what is lent.
+    fn used(&self) -> usize
+        ensures is { result ≡ length (strip_run self.now).rows }
+        ensures within { result ≤ places self.now }
+        ensures front { (strip_run self.now).rows ≡ reverse (take result self.now.rows.now) }
+    {
+        self.count.min(self.room())
+    }
+}
+
+impl<'a, T: Ranked + Copy> Lane for RankedRow<'a, T> {
+    type Row = T;
+
+    ghost run = { strip_run };
+
+    fn size(&self) -> (usize, usize) {
+        (self.used(), self.room())
+    }
+
+    fn look(&self, at: usize) -> Option<T> {
+        look_in(&self.rows[0..self.used()], at)
+    }
+
+    fn find(&self, number: u32) -> Option<usize> {
+        if !self.seen.may_have(number) {
+            return None;
+        }
+        find_in(&self.rows[0..self.used()], number)
+    }
+
+    fn put(&mut self, x: T) -> bool {
+        let n = self.used();
+        if n >= self.room() {
+            return false;
+        }
+        self.seen = self.seen.with(&x);
+        insert_in(self.rows, n, x);
+        self.count = n + 1;
+        true
+    }
+
+    fn replace(&mut self, at: usize, x: T) {
+        let n = self.used();
+        if at < n {
+            self.seen = self.seen.with(&x);
+            write_in(self.rows, n - 1 - at, x);
+        }
+    }
+
+    fn take(&mut self, at: usize) -> Option<T> {
+        let x = self.look(at);
+        let n = self.used();
+        if at < n {
+            remove_in(self.rows, n, at);
+            self.count = n - 1;
+        }
+        x
+    }
+
+    fn may_hold(&self, firm: u16, client: u32) -> bool {
+        self.seen.may_hold(firm, client)
+    }
+
+    fn clear(&mut self) {
+        self.count = 0;
+        self.seen = Seen::nothing();
+    }
+}
