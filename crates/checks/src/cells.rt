@@ -2,6 +2,7 @@
 ghost use Rattle.std.specs.Prelude.{◌≡◌};
 ghost use Rattle.std.specs.Option.{ok_or};
 ghost use Rattle.std.specs.Result.{result_ok};
+ghost use Rattle.orders.specs.Sides.{unknown};
 ghost use Rattle.forms.specs.declared.refusal.Refusal.TheVariants.{WrongBlank};
 ghost use Rattle.checks.specs.Cells.{and_then, in_range, number_in, side_in, validity_in, type_of, price_in, if_filled};
 
@@ -78,7 +79,7 @@ pub fn validity_in(at: u8, value: u64) -> Result<Validity, Refusal>
 impl TryFrom<u8> for OrderType {
     type Error = UnknownCode;
 
-    ghost try_from_gives = { λ byte told. result_ok told ≡ type_of byte };
+    ghost try_from_gives = { λ byte told. told ≡ ok_or (type_of byte) (unknown byte) };
 
     fn try_from(byte: u8) -> Result<OrderType, UnknownCode> {
         match byte {

@@ -4,6 +4,7 @@ use Rattle.orders.specs.declared.side.Side.{Side}
 use Rattle.orders.specs.declared.side.Side.TheVariants.{Buy, Sell}
 use Rattle.orders.specs.declared.side.Validity.{Validity}
 use Rattle.orders.specs.declared.side.Validity.TheVariants.{Day, Gtc, Ioc, Fok}
+use Rattle.orders.specs.declared.side.UnknownCode.{UnknownCode}
 
 abbrev pub other : Side → Side
 other Buy = Sell
@@ -36,3 +37,7 @@ side_of n = cond (n == 1) (Some Buy) (cond (n == 2) (Some Sell) None)
 -- 0 Day, 1 GTC, 3 IOC, 4 FOK
 abbrev pub validity_of : ℕ → Option Validity
 validity_of n = cond (n == 0) (Some Day) (cond (n == 1) (Some Gtc) (cond (n == 3) (Some Ioc) (cond (n == 4) (Some Fok) None)))
+
+-- what is said of a number that stands for none: the number
+abbrev pub unknown : ℕ → UnknownCode
+unknown code = record { 0 = code }

@@ -1,7 +1,7 @@
 // Which way an order goes, and how long it holds.
 ghost use Rattle.std.specs.Prelude.{◌≡◌};
-ghost use Rattle.std.specs.Result.{result_ok};
-ghost use Rattle.orders.specs.Sides.{other, fleeting, daily, side_of, validity_of};
+ghost use Rattle.std.specs.Option.{ok_or};
+ghost use Rattle.orders.specs.Sides.{other, fleeting, daily, side_of, validity_of, unknown};
 
 #[derive(Clone, Copy, Debug, PartialEq, Eq)]
 pub enum Side {
@@ -24,7 +24,7 @@ pub struct UnknownCode(pub u64);
 impl TryFrom<u64> for Side {
     type Error = UnknownCode;
 
-    ghost try_from_gives = { λ code told. result_ok told ≡ side_of code };
+    ghost try_from_gives = { λ code told. told ≡ ok_or (side_of code) (unknown code) };
 
     fn try_from(code: u64) -> Result<Side, UnknownCode> {
         match code {
@@ -38,7 +38,7 @@ impl TryFrom<u64> for Side {
 impl TryFrom<u64> for Validity {
     type Error = UnknownCode;
 
-    ghost try_from_gives = { λ code told. result_ok told ≡ validity_of code };
+    ghost try_from_gives = { λ code told. told ≡ ok_or (validity_of code) (unknown code) };
 
     fn try_from(code: u64) -> Result<Validity, UnknownCode> {
         match code {

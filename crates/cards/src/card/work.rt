@@ -1,6 +1,6 @@
 // The front card as a book.
 ghost use Rattle.std.specs.Prelude.{◌≡◌, None};
-ghost use Rattle.books.specs.Model.{look_at, rewrite_fits, rewritten};
+ghost use Rattle.books.specs.Model.{look_at, queue_of, put_answer, after_put, rewrite_fits, rewritten};
 ghost use Rattle.cards.specs.Cards.{card_queues, held_by};
 ghost use Rattle.cards.specs.Held.{held_at};
 ghost use Rattle.cards.specs.Covered.{covered_bounded};
@@ -77,12 +77,22 @@ impl<B: Book> Book for FrontCard<B> {
         self.below.find(number)
     }
 
-    fn put(&mut self, record: Record) -> Result<(), PutError> {
+    // After a put nothing is held over its queue, beside what the trait asks.
+    fn put(&mut self, record: Record) -> Result<(), PutError>
+        ensures told { result ≡ put_answer «record» (card_queues B.Book.queues self.old) }
+        ensures left { card_queues B.Book.queues self.new ≡ after_put result «record» (card_queues B.Book.queues self.old) }
+        ensures none { held_at (queue_of «record») (held_by self.new) ≡ None }
+    {
         self.flush(record.queue());
         self.below.put(record)
     }
 
-    fn rewrite(&mut self, at: usize, record: Record) -> bool {
+    // A rewrite of a queue's first record leaves the book below as it is, beside what the trait asks.
+    fn rewrite(&mut self, at: usize, record: Record) -> bool
+        ensures told { result ≡ rewrite_fits at «record» (card_queues B.Book.queues self.old) }
+        ensures left { card_queues B.Book.queues self.new ≡ rewritten at «record» (card_queues B.Book.queues self.old) }
+        ensures same { at ≡ 0 → self.new.below ≡ self.old.below }
+    {
         if at == 0 {
             return self.hold_back(record);
         }

@@ -11,4 +11,5 @@ returns g c =
     record {
       told = c.rewrite.ensures.told ∙ fits_same h q c.args.at c.args.record;
       left = ap (covered h) c.rewrite.ensures.left ∙ rewrite_later h q c.args.at c.args.record c.if-at-eq0.false;
+      same = λ first. absurd (c.if-at-eq0.false first);
     }
