@@ -1,13 +1,13 @@
 -- A held record over a queue's first one.
-use Rattle.std.specs.Prelude.{◌≡◌, ℕ, zero, suc, Bool, true, false, cond, List, [], ◌∷◌, length, Some, None, Option, slice_set, refl}
+use Rattle.std.specs.Prelude.{◌≡◌, ℕ, zero, suc, Bool, true, false, cond, ◌||◌, List, [], ◌∷◌, length, Some, None, Option, slice_set, refl}
 use Rattle.std.proofs.Common.{ap, sym, ◌∙◌, arith}
-use Rattle.std.specs.List.{remove, slice_get}
+use Rattle.std.specs.List.{remove, slice_get, list_any}
 use Rattle.std.proofs.lemmas.Bool.Decides.{nat_tests}
 use Rattle.std.proofs.lemmas.Bool.{cond-true, false≢true}
 use Rattle.orders.specs.declared.rank.Rank.{Rank}
 use Rattle.orders.specs.Ranks.{same_rank}
 use Rattle.books.specs.Lists.{first_number, swap_fits}
-use Rattle.cards.specs.Held.{over, over_first}
+use Rattle.cards.specs.Held.{over, over_first, one_is}
 
 pub rank_same : (a b : Rank) → same_rank a b ≡ true → a ≡ b
 rank_same a b e =
@@ -39,6 +39,21 @@ module _ {X : Type 0} (f : X → Rank) where
   over_number n r k None xs = refl
   over_number n r k (Some h) [] = refl
   over_number n r k (Some h) (x ∷ xs) = ways h x xs (λ l. first_number n k l ≡ first_number n k (x ∷ xs)) (λ e. let t : n h ≡ n x = r h ∙ ap (λ (z : Rank). z.number) (sym e) ∙ sym (r x) in rw t refl) refl
+
+  pub over_any : (p : X → Bool) (h : Option X) (xs : List X) → list_any p (over f h xs) ≡ true → (one_is p h || list_any p xs) ≡ true
+  over_any p None xs e = e
+  over_any p (Some h) [] e = absurd (false≢true e)
+  over_any p (Some h) (x ∷ xs) e = ways h x xs (λ l. list_any p l ≡ true → (p h || (p x || list_any p xs)) ≡ true)
+      (λ _. held_one (p h) (p x) (list_any p xs)) (λ t. held_none (p h) (p x || list_any p xs) t) e
+    where
+      held_one : (a b c : Bool) → (a || c) ≡ true → (a || (b || c)) ≡ true
+      held_one true b c e = refl
+      held_one false true c e = refl
+      held_one false false c e = e
+
+      held_none : (a b : Bool) → b ≡ true → (a || b) ≡ true
+      held_none true b e = refl
+      held_none false b e = e
 
   pub over_is : (h : Option X) (xs : List X) → slice_get (over f h xs) 0 ≡ over_first f h (slice_get xs 0)
   over_is None xs = refl

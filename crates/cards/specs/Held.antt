@@ -1,5 +1,5 @@
 -- Held records, one a queue at most, and queues with them for their first ones.
-use Rattle.std.specs.Prelude.{cond, List, Some, None, Option}
+use Rattle.std.specs.Prelude.{Bool, false, cond, List, Some, None, Option}
 use Rattle.std.specs.Option.{option_map}
 use Rattle.orders.specs.declared.order.Order.{Order}
 use Rattle.orders.specs.declared.order.Stop.{Stop}
@@ -44,6 +44,11 @@ abbrev pub over_first : {X : Type 0} → (X → Rank) → Option X → Option X 
 over_first f None o = o
 over_first f (Some h) None = None
 over_first f (Some h) (Some x) = cond (same_rank (f x) (f h)) (Some h) (Some x)
+
+-- whether there is one, and it passes a test
+abbrev pub one_is : {X : Type 0} → (X → Bool) → Option X → Bool
+one_is p None = false
+one_is p (Some x) = p x
 
 -- queues with held records over their first ones
 abbrev pub covered : Held → Queues → Queues

@@ -4,7 +4,7 @@
 ghost use Rattle.std.specs.Prelude.{◌≡◌, ◌<◌, ◌≤◌, [], ◌∷◌, ◌++◌, length, take, drop, None, slice_index_or};
 ghost use Rattle.slots.specs.Slots.{held, slot_run};
 
-use crate::slots::{count_in, find_in, free_near, gap_of, look_in, slot_of};
+use crate::slots::{count_in, find_in, free_near, gap_of, holds_in, look_in, slot_of};
 use books::lane::Lane;
 use orders::ranked::Ranked;
 
@@ -62,6 +62,10 @@ impl<T: Ranked + Copy> Lane for SlotRow<T> {
     fn take(&mut self, at: usize) -> Option<T> {
         let i = slot_of(&self.slots, at)?;
         self.slots[i].take()
+    }
+
+    fn may_hold(&self, firm: u16, client: u32) -> bool {
+        holds_in(&self.slots, firm, client)
     }
 
     fn clear(&mut self) {

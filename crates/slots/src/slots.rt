@@ -1,7 +1,8 @@
 // Slots in rank order, free ones between: the records are what the taken slots hold, in order.
 ghost use Rattle.std.specs.Prelude.{◌≡◌, ◌≤◌, length, take, reverse, is_none};
-ghost use Rattle.std.specs.List.{slice_get, prefix_len};
+ghost use Rattle.std.specs.List.{slice_get, prefix_len, list_any};
 ghost use Rattle.books.specs.Lists.{place_of, first_number};
+ghost use Rattle.books.specs.Model.{owned};
 ghost use Rattle.slots.specs.Slots.{held, not_behind, Stands, Free};
 
 use orders::rank::Rank;
@@ -40,6 +41,16 @@ pub fn find_in<T: Ranked + Copy>(slots: &[Option<T>], number: u32) -> Option<usi
         .iter()
         .filter_map(|s| *s)
         .position(|y| y.number() == number)
+}
+
+// Whether a record has a firm's client number.
+pub fn holds_in<T: Ranked + Copy>(slots: &[Option<T>], firm: u16, client: u32) -> bool
+    ensures { result ≡ list_any (owned T.Numbered.firm T.Numbered.client firm client) (held slots.now) }
+{
+    slots
+        .iter()
+        .filter_map(|s| *s)
+        .any(|x| x.firm() == firm && x.client() == client)
 }
 
 // Where a rank belongs: behind the records that it is not before, in the middle of the free slots there.

@@ -3,14 +3,15 @@ ghost use Rattle.std.specs.Prelude.{◌≡◌, Some};
 ghost use Rattle.orders.specs.Rows.{order_of, stop_of};
 ghost use Rattle.books.specs.declared.queue.Record.{Record as Kind};
 ghost use Rattle.books.specs.declared.queue.Record.TheVariants.{Standing, Waiting};
-ghost use Rattle.books.specs.Model.{queue_of, record_rank};
+ghost use Rattle.books.specs.Model.{queue_of, record_rank, owned, order_of_record};
 ghost use Rattle.cards.specs.Cards.{held_by};
-ghost use Rattle.cards.specs.Held.{held_at, held_with, held_without, none_held, over_first};
+ghost use Rattle.cards.specs.Held.{held_at, held_with, held_without, none_held, over_first, one_is};
 
 use super::FrontCard;
 use books::kept::ranks_as;
 use books::queue::{Queue, Record};
 use orders::order::{Order, Stop};
+use orders::ranked::Numbered;
 use orders::row::{OrderRow, StopRow};
 use orders::side::Side;
 
@@ -22,6 +23,13 @@ pub(super) fn over(held: Option<Record>, first: Option<Record>) -> Option<Record
         Some(h) if ranks_as(first, h) => held,
         _ => first,
     }
+}
+
+// Whether a held record is what a firm knows by a client number.
+pub(super) fn is_of(held: Option<Record>, firm: u16, client: u32) -> bool
+    ensures { result ≡ one_is (owned (λ (r : Kind). (order_of_record r).firm) (λ (r : Kind). (order_of_record r).client) firm client) held }
+{
+    held.is_some_and(|r| r.firm() == firm && r.client() == client)
 }
 
 // Four plain rows beside the book below, as the owner named: that it stays is said by each call that writes.

@@ -6,7 +6,7 @@ ghost use Rattle.cards.specs.Held.{held_at};
 ghost use Rattle.cards.specs.Covered.{covered_bounded};
 
 use super::FrontCard;
-use super::held::over;
+use super::held::{is_of, over};
 use books::book::Book;
 use books::kept::ranks_as;
 use books::queue::{PutError, Queue, Record};
@@ -107,6 +107,10 @@ impl<B: Book> Book for FrontCard<B> {
             return first;
         }
         self.below.take(queue, at)
+    }
+
+    fn may_hold(&self, queue: Queue, firm: u16, client: u32) -> bool {
+        is_of(self.held(queue), firm, client) || self.below.may_hold(queue, firm, client)
     }
 
     fn clear(&mut self) {
