@@ -1,5 +1,5 @@
 -- What stands behind the digits of a number, and what reading cells gives.
-use Rattle.std.proofs.Common.{◌≡◌, ℕ, zero, suc, ◌+◌, ◌*◌, ◌/◌, ◌%◌, ◌^◌, ◌<◌, ◌≤◌, Bool, true, false, cond, List, [], ◌∷◌, ◌++◌, length, get_or, take, drop, Some, None, Ok, Option, Result, sym, ap, ◌∙◌, refl, append-nil, take_all, take_at, drop_at, drop-drop, length-append, one-add, arith, rules}
+use Rattle.std.proofs.Common.{◌≡◌, ℕ, zero, suc, ◌+◌, ◌*◌, ◌/◌, ◌%◌, ◌<◌, ◌≤◌, Bool, true, false, List, [], ◌∷◌, ◌++◌, length, get_or, take, drop, Some, None, Ok, sym, ap, ◌∙◌, refl, ltb-true, append-nil, take_all, take_at, drop_at, drop-drop, length-append, arith}
 use Rattle.std.proofs.lemmas.Bool.Decides.{nat_tests}
 use Rattle.std.proofs.lemmas.Fmt.{decimal_is_IsNumeral, length-decimal-le, decimal_digit}
 use Rattle.std.proofs.lemmas.Str.Parse.{digit_from_value}
@@ -8,11 +8,12 @@ use Rattle.std.proofs.lemmas.List.{get_or_at}
 use Rattle.std.specs.Prelude.{◌==◌, nat_lt}
 use Rattle.std.specs.Char.{digit_value}
 use Rattle.std.specs.Fmt.{decimal}
-use Rattle.std.specs.List.{prefix_len}
 use Rattle.std.specs.Str.Parse.{AllDigits, digits_value}
-use Rattle.orders.specs.declared.price.Price.{Price}
 use Rattle.prints.specs.Texts.{price_text}
-use Rattle.sheets.specs.Cells.{is_digit, digits, written, read_number, read_price, read_cents}
+use Rattle.writing.specs.declared.cell.Cell.{Cell}
+use Rattle.writing.specs.declared.cell.Cell.TheVariants.{Number, OneByte, Price}
+use Rattle.writing.specs.Texts.{text, has_room}
+use Rattle.sheets.specs.Cells.{is_digit, digits, read_number, read_price, read_cents}
 
 -- a digit by its value is a digit by its byte
 digit_byte : (c : ℕ) (cs : List ℕ) → AllDigits 10 (c ∷ cs) → is_digit c ≡ true
@@ -83,3 +84,19 @@ price_back h small =
     let u = decimal_digit (h % 10) (omega arith) in
     rw (t, u) (whole_back (decimal (h / 100)) (h % 100 / 10) (h % 10) d.0.1 d.0.0 few (omega arith) (omega arith)
     ∙ ap (λ (n : ℕ). Ok (Some (record { hundredths = n }))) (omega (arith, d.1)))
+
+-- a cell has at most twelve bytes
+pub text_short : (c : Cell) → has_room c ≡ true → length (text c) ≤ 12
+text_short (Number None) h = omega arith
+text_short (Number (Some n)) h =
+    let small : n < 1000000000000 = ltb-true n 1000000000000 h in
+    length-decimal-le 12 n (omega arith) (omega arith) (omega arith)
+text_short (OneByte None) h = omega arith
+text_short (OneByte (Some b)) h = omega arith
+text_short (Price None) h = omega arith
+text_short (Price (Some p)) h =
+    let small : p.hundredths < 100000000 = ltb-true p.hundredths 100000000 h in
+    let few : length (decimal (p.hundredths / 100)) ≤ 6 = length-decimal-le 6 (p.hundredths / 100) (omega arith) (omega arith) (omega arith) in
+    let t = decimal_digit (p.hundredths % 100 / 10) (omega arith) in
+    let u = decimal_digit (p.hundredths % 10) (omega arith) in
+    rw (t, u) (omega (arith, length-append (decimal (p.hundredths / 100)) (44 ∷ ((48 + p.hundredths % 100 / 10) ∷ (48 + p.hundredths % 10) ∷ []))))

@@ -1,2 +1,5 @@
-mod Digits
-pub mod Packing
+pub mod Digits
+pub mod Named
+pub mod Back
+pub mod Texts
+pub mod Cuts

@@ -1,3 +1,4 @@
 pub mod Texts
 pub mod Packed
 pub mod Written
+pub mod Drafts

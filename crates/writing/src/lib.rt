@@ -2,3 +2,8 @@
 #![tactic(auto)]
 
 mod cell;
+pub mod draft;
+mod drafting;
+mod packing;
+mod parts;
+pub mod row;

@@ -1,9 +1,9 @@
 -- A directory whose parts are packed names each part, and none of its pairs is misplaced.
-use Rattle.std.proofs.Common.{◌≡◌, ℕ, zero, suc, ◌+◌, ◌-◌, ◌*◌, ◌/◌, ◌%◌, ◌<◌, ◌≤◌, List, [], ◌∷◌, ◌++◌, length, map, get_or, take, drop, Some, None, Option, sym, ap, ◌∙◌, refl, add-one, append_assoc, length-append, arith}
+use Rattle.std.proofs.Common.{◌≡◌, ℕ, zero, suc, ◌+◌, ◌*◌, ◌≤◌, List, [], ◌∷◌, ◌++◌, length, map, get_or, Some, None, Option, sym, ap, ◌∙◌, refl, append_assoc, length-append, arith}
 use Rattle.std.proofs.lemmas.Bool.Decides.{nat_tests}
 use Rattle.std.proofs.lemmas.List.{get_or-append-add, take_at, drop_at, length-map}
 use Rattle.std.specs.List.{concat, slice_get}
-use Rattle.sheets.specs.Layout.{offset_at, length_at, ends_at, directory_end, placed, walk, part_at, first_misplaced}
+use Rattle.sheets.specs.Layout.{offset_at, length_at, directory_end, placed, walk, part_at, first_misplaced}
 use Rattle.sheets.specs.declared.directory.Directory.{Directory}
 use Rattle.sheets.specs.declared.directory.Directory.TheVariants.{Rows, Cells}
 use Rattle.writing.specs.Packed.{number_bytes, pairs, packed}
@@ -45,7 +45,7 @@ first_placed : (d : Directory) (bs : List ℕ) (j at : ℕ) (p : List ℕ) (ps :
 first_placed d bs j at p ps l =
     let n = first_named d bs j at p ps l in
     let inside : at + length p ≤ length bs =
-        omega (arith, ap length l.there, length-append l.front (p ++ concat ps), length-append p (concat ps), l.place) in
+    omega (arith, ap length l.there, length-append l.front (p ++ concat ps), length-append p (concat ps), l.place) in
     grind (arith, nat_tests)
 
 -- a pair has as many bytes in a directory of any length
