@@ -1,11 +1,12 @@
 -- A row that is written reads as its form, and a sheet as its forms.
-use Rattle.std.proofs.Common.{◌≡◌, ℕ, zero, suc, ◌*◌, ◌≤◌, Bool, true, false, List, [], ◌∷◌, ◌++◌, length, map, subst, Some, None, Ok, Option, ap, ◌∙◌, refl, ltb-true, length-append, arith}
+use Rattle.std.proofs.Common.{◌≡◌, ℕ, zero, suc, ◌*◌, ◌≤◌, Bool, true, false, ◌&&◌, List, [], ◌∷◌, ◌++◌, length, map, subst, Some, None, Ok, Option, ap, ◌∙◌, refl, ltb-true, length-append, arith}
 use Rattle.std.proofs.lemmas.Bool.Decides.{nat_tests}
 use Rattle.std.proofs.lemmas.List.{length-map}
 use Rattle.std.specs.Prelude.{◌==◌, nat_lt}
 use Rattle.std.specs.List.{concat, slice_get, list_all}
 use Rattle.forms.specs.declared.form.Form as form
 use Rattle.forms.specs.declared.form.Form.{Form}
+use Rattle.sheets.specs.Fits.{fits, number_fits}
 use Rattle.sheets.specs.Cells.{read_number, read_price, read_type}
 use Rattle.sheets.specs.Layout.{word, part_at, first_misplaced, directory_end}
 use Rattle.sheets.specs.Letters.{letter_of, cells_of}
@@ -16,7 +17,7 @@ use Rattle.sheets.specs.declared.letter.Letter.{Letter}
 use Rattle.sheets.specs.declared.letter.Letter.TheVariants.{Entry, Change, Cancel, MassCancel, Closing, Opening}
 use Rattle.writing.specs.declared.cell.Cell.{Cell}
 use Rattle.writing.specs.declared.cell.Cell.TheVariants.{Number, OneByte, Price}
-use Rattle.writing.specs.Texts.{letter, letter_byte, cells, text, has_room, fits}
+use Rattle.writing.specs.Texts.{letter, letter_byte, cells, text, has_room}
 use Rattle.writing.specs.Packed.{number_bytes, pairs}
 use Rattle.writing.specs.Written.{row_written, sheet_written, ReadsAs}
 use Rattle.writing.proofs.Digits.{number_back, price_back}
@@ -116,6 +117,19 @@ form_read l count rest f e long keeps read =
     let checked : check_cells l count rest (letter_byte l ∷ (count ∷ rest)) ≡ Ok tt = rw (same, room, keeps) refl in
     rw (letter_back l, checked) read
 
+-- a form fits exactly where each of its cells has room
+last_alone : (b : Bool) → (b && true) ≡ b
+last_alone true = refl
+last_alone false = refl
+
+pub fits_by_cells : (f : Form) → list_all has_room (cells f) ≡ fits f
+fits_by_cells (form.TheVariants.Entry f) = rw (last_alone (number_fits f.tag)) refl
+fits_by_cells (form.TheVariants.Change f) = rw (last_alone (number_fits f.validity)) refl
+fits_by_cells (form.TheVariants.Cancel f) = rw (last_alone (number_fits f.number)) refl
+fits_by_cells (form.TheVariants.MassCancel f) = rw (last_alone (number_fits f.investor)) refl
+fits_by_cells form.TheVariants.Closing = refl
+fits_by_cells (form.TheVariants.Opening f) = last_alone (number_fits f.day)
+
 abbrev head : Form → List ℕ
 head f = letter_byte (letter f) ∷ length (cells f) ∷ []
 
@@ -128,7 +142,7 @@ row_back f h =
     let keeps : first_misplaced Cells (row_written f) (length (cells f)) ≡ None =
     subst (λ (n : ℕ). first_misplaced Cells (row_written f) n ≡ None) (length-map (cells f) text) (packed_keeps Cells (head f) parts refl) in
     let has = λ (k : ℕ) (c : Cell) (e : slice_get (cells f) k ≡ Some c).
-    has_from_text (row_written f) k c (packed_part Cells (head f) parts refl k (text c) (mapped_at text (cells f) k c e)) (passes_at has_room (cells f) k c h e) in
+    has_from_text (row_written f) k c (packed_part Cells (head f) parts refl k (text c) (mapped_at text (cells f) k c e)) (passes_at has_room (cells f) k c (fits_by_cells f ∙ h) e) in
     form_read (letter f) (length (cells f)) _ f (as_many_cells f) long keeps (cells_read (row_written f) f has)
 
 -- the sheet of forms that fit

@@ -10,7 +10,7 @@ use Rattle.forms.specs.declared.form.Form.{Form}
 use Rattle.sheets.specs.Layout.{directory_end}
 use Rattle.sheets.specs.declared.directory.Directory.TheVariants.{Rows}
 use Rattle.writing.specs.declared.draft.Excess as excess
-use Rattle.writing.specs.Texts.{fits}
+use Rattle.sheets.specs.Fits.{fits}
 use Rattle.writing.specs.Packed.{number_bytes, laid_out}
 use Rattle.writing.specs.Written.{row_written, row_if_fits, sheet_of}
 use Rattle.writing.specs.Drafts.{cut, joins, with_form}

@@ -5,7 +5,7 @@ use Rattle.forms.specs.declared.form.Form.{Form}
 use Rattle.writing.specs.declared.draft.Draft.{Draft}
 use Rattle.writing.specs.declared.draft.Excess.{Excess}
 use Rattle.writing.specs.declared.draft.Excess.TheVariants.{Value, Rows, Bytes}
-use Rattle.writing.specs.Texts.{fits}
+use Rattle.sheets.specs.Fits.{fits}
 use Rattle.writing.specs.Written.{row_written, sheet_of}
 
 -- bytes cut into parts of these lengths

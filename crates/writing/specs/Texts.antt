@@ -1,9 +1,9 @@
 -- The cells of a form's row, and the text of each.
 use Rattle.std.specs.Prelude.{ℕ, Bool, true, List, [], ◌∷◌, Some, None, decimal, nat_lt}
-use Rattle.std.specs.List.{list_all}
 use Rattle.forms.specs.declared.form.Form as form
 use Rattle.forms.specs.declared.form.Form.{Form}
 use Rattle.prints.specs.Texts.{price_text}
+use Rattle.sheets.specs.Fits.{number_fits, price_fits}
 use Rattle.sheets.specs.declared.letter.Letter.{Letter}
 use Rattle.sheets.specs.declared.letter.Letter.TheVariants.{Entry, Change, Cancel, MassCancel, Closing, Opening}
 use Rattle.writing.specs.declared.cell.Cell.{Cell}
@@ -50,12 +50,6 @@ text (Price (Some p)) = price_text p.hundredths
 
 -- a cell has room for a number of twelve digits, and for a price of 999999,99
 abbrev pub has_room : Cell → Bool
-has_room (Number None) = true
-has_room (Number (Some n)) = nat_lt n 1000000000000
-has_room (OneByte k) = true
-has_room (Price None) = true
-has_room (Price (Some p)) = nat_lt p.hundredths 100000000
-
--- a form that a row can hold
-abbrev pub fits : Form → Bool
-fits f = list_all has_room (cells f)
+has_room (Number n) = number_fits n
+has_room (OneByte b) = true
+has_room (Price p) = price_fits p

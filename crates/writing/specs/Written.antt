@@ -2,11 +2,12 @@
 use Rattle.std.specs.Prelude.{◌≡◌, ℕ, cond, List, [], ◌∷◌, length, map, Some, None, Ok, vec_items, Option}
 use Rattle.std.specs.List.{concat, slice_get}
 use Rattle.forms.specs.declared.form.Form.{Form}
+use Rattle.sheets.specs.Fits.{fits}
 use Rattle.sheets.specs.Rows.{read_form}
 use Rattle.sheets.specs.Sheets.{row_count, sheet_refusal, row_bytes}
 use Rattle.sheets.specs.declared.directory.Directory.{Directory}
 use Rattle.sheets.specs.declared.directory.Directory.TheVariants.{Rows, Cells}
-use Rattle.writing.specs.Texts.{letter, letter_byte, cells, text, fits}
+use Rattle.writing.specs.Texts.{letter, letter_byte, cells, text}
 use Rattle.writing.specs.declared.parts.Parts.{Parts}
 use Rattle.writing.specs.Packed.{number_bytes, packed}
 

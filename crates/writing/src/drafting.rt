@@ -2,7 +2,7 @@
 ghost use Rattle.std.specs.Prelude.{◌≡◌, [], true, Ok, List, IfOk, MatchResult, map, vec_items};
 ghost use Rattle.std.specs.List.{list_all};
 ghost use Rattle.forms.specs.declared.form.Form.{Form};
-ghost use Rattle.writing.specs.Texts.{fits};
+ghost use Rattle.sheets.specs.Fits.{fits};
 ghost use Rattle.writing.specs.Written.{row_written, sheet_of, ReadsAs};
 ghost use Rattle.writing.specs.Drafts.{rows, joins, with_form};
 

@@ -102,6 +102,7 @@ fn parts_of(heap: Global, cells: &[Cell]) -> Result<Parts, AllocError>
 }
 
 // The bytes of a form's row, which read as the form; none where a cell has no room for its value.
+#[tactic(auto, using(crate::proofs::Back::fits_by_cells))]
 pub fn write_row(heap: Global, form: Form) -> Result<Option<Vec<u8>>, AllocError>
     ensures told { IfOk result (λ row. option_map vec_items row ≡ row_if_fits form) }
     ensures back { IfOk result (λ row. IfSome row (λ v. read_form (vec_items v) ≡ Ok form)) }
