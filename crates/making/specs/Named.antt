@@ -1,8 +1,10 @@
 -- The forms that the lines of a text name, or the first line that is refused.
-use Rattle.std.specs.Prelude.{◌≡◌, ℕ, ◌+◌, true, cond, List, [], ◌∷◌, ◌++◌, length, map, Some, None, Ok, Err, Option, Result, ◌==◌, nat_le, nat_lt}
-use Rattle.std.specs.List.{slice_split, list_all}
+use Rattle.std.specs.Prelude.{◌≡◌, ℕ, ◌+◌, ◌-◌, true, cond, List, [], ◌∷◌, ◌++◌, length, map, Some, None, Ok, Err, Option, Result, ◌==◌, nat_le, nat_lt}
+use Rattle.std.specs.List.{slice_get, slice_split, list_all}
+use Rattle.std.specs.Option.{unwrap_or}
 use Rattle.forms.specs.declared.form.Form.{Form}
 use Rattle.sheets.specs.Fits.{fits}
+use Rattle.sheets.specs.Layout.{part}
 use Rattle.tables.specs.Lines.{read_line}
 use Rattle.tables.specs.Words.{next_word, bad_word}
 use Rattle.tables.specs.declared.words.BadWord.{BadWord}
@@ -49,6 +51,10 @@ named_from n (line ∷ rest) forms = and_then (with_line n line forms) (named_fr
 
 abbrev pub forms_named : List ℕ → Result (List Form) Refused
 forms_named text = named_from 1 (lines text) []
+
+-- the word of a text that a refusal is about
+abbrev pub word_blamed : List ℕ → Refused → List ℕ
+word_blamed text r = part (unwrap_or (slice_get (lines text) (r.line - 1)) []) (r.place - 1) r.length
 
 -- a draft has exactly the rows of some forms, each of which fits
 abbrev pub Holds : Draft → List Form → Type 0

@@ -1,7 +1,8 @@
 // Why no sheet is made of a text.
 ghost use Rattle.std.specs.Prelude.{◌≡◌};
-ghost use Rattle.making.specs.Named.{refused};
+ghost use Rattle.making.specs.Named.{refused, word_blamed};
 
+use sheets::bytes::part_of;
 use tables::words::BadWord;
 
 // A word that spoils its line, or a row too many, or one that would make the sheet too long.
@@ -31,5 +32,16 @@ impl Refused {
             length: word.length,
             why,
         }
+    }
+
+    // The word of the text that is to blame.
+    pub fn word(self, text: &[u8]) -> &[u8]
+        ensures { result.now ≡ word_blamed text.now self }
+    {
+        let line = text
+            .split(|b| *b == b'\n')
+            .nth(self.line.saturating_sub(1))
+            .unwrap_or(&[]);
+        part_of(line, self.place.saturating_sub(1), self.length)
     }
 }
