@@ -2,3 +2,4 @@ pub mod Texts
 pub mod Packed
 pub mod Written
 pub mod Drafts
+pub mod Worked

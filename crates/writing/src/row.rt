@@ -5,6 +5,7 @@ ghost use Rattle.std.specs.Option.{option_map};
 ghost use Rattle.sheets.specs.Rows.{read_form};
 ghost use Rattle.sheets.specs.declared.directory.Directory.TheVariants.{Cells};
 ghost use Rattle.writing.specs.Texts.{letter, letter_byte, cells, text, has_room};
+ghost use Rattle.writing.specs.Worked.{Worked};
 ghost use Rattle.writing.specs.Written.{Packs, row_if_fits};
 
 use crate::cell::Cell;
@@ -115,3 +116,8 @@ pub fn write_row(heap: Global, form: Form) -> Result<Option<Vec<u8>>, AllocError
     let head = [letter_byte(letter(form)), cells.len() as u8];
     Ok(Some(parts.packed(heap, &head)?))
 }
+
+// The worked sheet comes out as it says.
+pub fn worked()
+    ensures { Worked }
+{}
