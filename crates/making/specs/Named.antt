@@ -1,5 +1,5 @@
 -- The forms that the lines of a text name, or the first line that is refused.
-use Rattle.std.specs.Prelude.{◌≡◌, ℕ, ◌+◌, ◌-◌, true, cond, List, [], ◌∷◌, ◌++◌, length, map, Some, None, Ok, Err, Option, Result, ◌==◌, nat_le, nat_lt}
+use Rattle.std.specs.Prelude.{◌≡◌, ℕ, ◌+◌, ◌-◌, ◌≤◌, true, cond, List, [], ◌∷◌, ◌++◌, length, map, Some, None, Ok, Err, Option, Result, ◌==◌, nat_le, nat_lt}
 use Rattle.std.specs.List.{slice_get, slice_split, list_all}
 use Rattle.std.specs.Option.{unwrap_or}
 use Rattle.forms.specs.declared.form.Form.{Form}
@@ -55,6 +55,19 @@ forms_named text = named_from 1 (lines text) []
 -- the word of a text that a refusal is about
 abbrev pub word_blamed : List ℕ → Refused → List ℕ
 word_blamed text r = part (unwrap_or (slice_get (lines text) (r.line - 1)) []) (r.place - 1) r.length
+
+-- that word has bytes, as many as the refusal says
+pub record Blames (text : List ℕ) (r : Refused) : Type 0 where
+  pub counted : 1 ≤ r.line
+  pub some : 1 ≤ r.length
+  pub whole : length (word_blamed text r) ≡ r.length
+
+-- it is about line n, of so many bytes, and the word lies in it
+pub record InLine (n size : ℕ) (r : Refused) : Type 0 where
+  pub numbered : r.line ≡ n
+  pub from_1 : 1 ≤ r.place
+  pub some : 1 ≤ r.length
+  pub inside : r.place + r.length ≤ size + 1
 
 -- a draft has exactly the rows of some forms, each of which fits
 abbrev pub Holds : Draft → List Form → Type 0

@@ -1,8 +1,8 @@
 // A text becomes a sheet, line by line.
-ghost use Rattle.std.specs.Prelude.{◌≡◌, List, Ok, Err, IfOk, MatchResult, vec_items};
+ghost use Rattle.std.specs.Prelude.{◌≡◌, List, length, Ok, Err, IfOk, IfErr, MatchResult, vec_items};
 ghost use Rattle.forms.specs.declared.form.Form.{Form};
 ghost use Rattle.writing.specs.Written.{ReadsAs, sheet_written};
-ghost use Rattle.making.specs.Named.{with_line, forms_named, Holds};
+ghost use Rattle.making.specs.Named.{with_line, forms_named, InLine, Blames, Holds};
 
 use crate::refused::{Refused, Why};
 use std::alloc::{AllocError, Global};
@@ -17,7 +17,8 @@ fn add_line(
     number: usize,
     line: &[u8],
 ) -> Result<Result<(), Refused>, AllocError>
-    ensures { IfOk result (λ told. (forms : List Form) → Holds draft.old forms → MatchResult told (λ _. (after : List Form) × (with_line number line.now forms ≡ Ok after) × Holds draft.new after) (λ e. with_line number line.now forms ≡ Err e)) }
+    ensures told { IfOk result (λ told. (forms : List Form) → Holds draft.old forms → MatchResult told (λ _. (after : List Form) × (with_line number line.now forms ≡ Ok after) × Holds draft.new after) (λ e. with_line number line.now forms ≡ Err e)) }
+    ensures within { IfOk result (λ told. IfErr told (InLine number (length line.now))) }
 {
     let form = match read_line(line) {
         Ok(Some(form)) => form,
@@ -38,6 +39,7 @@ fn add_line(
 pub fn make_sheet(heap: Global, text: &[u8]) -> Result<Result<Vec<u8>, Refused>, AllocError>
     ensures told { IfOk result (λ told. MatchResult told (λ v. (forms : List Form) × (forms_named text.now ≡ Ok forms) × (vec_items v ≡ sheet_written forms)) (λ e. forms_named text.now ≡ Err e)) }
     ensures back { IfOk result (λ told. IfOk told (λ v. (forms : List Form) × (forms_named text.now ≡ Ok forms) × ReadsAs forms (vec_items v))) }
+    ensures blames { IfOk result (λ told. IfErr told (Blames text.now)) }
 {
     let mut draft = Draft::new(heap);
     let mut number = 0;

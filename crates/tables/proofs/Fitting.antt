@@ -1,14 +1,11 @@
 -- What a line asks for has room in the cells of a row.
-use Rattle.std.proofs.Common.{◌≡◌, ℕ, zero, suc, ◌+◌, ◌*◌, ◌^◌, ◌<◌, ◌≤◌, Bool, true, false, ◌&&◌, cond, List, length, get_or, set, replicate, take, drop, Some, None, Ok, Err, Option, Result, sym, ap, ◌∙◌, refl, subst, ◌⊎◌, inl, inr, ⊎_elim, [], ◌∷◌, take-take, lt-ltb, arith}
-use Rattle.std.proofs.lemmas.Bool.Decides.{nat_tests}
+use Rattle.std.proofs.Common.{◌≡◌, ℕ, zero, suc, ◌+◌, ◌*◌, ◌^◌, ◌<◌, ◌≤◌, Bool, true, false, ◌&&◌, cond, List, length, get_or, set, replicate, take, drop, Some, None, Ok, Err, Option, Result, ap, refl, subst, [], ◌∷◌, take-take, lt-ltb, arith}
 use Rattle.std.proofs.lemmas.List.{length-take}
 use Rattle.std.proofs.lemmas.List.Sums.{prefix_len-le-length}
 use Rattle.std.specs.Prelude.{◌==◌, nat_lt, codes}
 use Rattle.std.specs.Str.{bytes_eq}
-use Rattle.std.specs.Str.Parse.{AllDigits, digits_value}
-use Rattle.orders.specs.declared.price.Price as price
-use Rattle.forms.specs.declared.form.Form.{Form}
-use Rattle.sheets.specs.Cells.{is_digit, is_blank, digits, written, read_number, read_price, read_type}
+use Rattle.std.specs.Str.Parse.{digits_value}
+use Rattle.sheets.specs.Cells.{is_digit, is_blank, digits, written}
 use Rattle.sheets.specs.Fits.{number_fits, price_fits, fits}
 use Rattle.sheets.specs.declared.letter.Letter.{Letter}
 use Rattle.sheets.specs.declared.letter.Letter.TheVariants.{Entry, Change, Cancel, MassCancel, Closing, Opening}
@@ -21,11 +18,10 @@ use Rattle.tables.specs.declared.values.Value.{Value}
 use Rattle.tables.specs.declared.values.Value.TheVariants.{Number, Byte, Price}
 use Rattle.tables.specs.declared.words.Word.{Word}
 use Rattle.tables.specs.declared.words.BadWord.{BadWord}
-use Rattle.tables.specs.Words.{next_word, bad_word}
-use Rattle.tables.specs.Columns.{column_of}
+use Rattle.tables.specs.Words.{next_word}
 use Rattle.tables.specs.Values.{read_as, read_value, worded, number_value, price_value, type_value, side_word, validity_word}
 use Rattle.tables.specs.Cells.{Values, blank_cells, fill_cell, fill_column, with_word}
-use Rattle.tables.specs.Lines.{number_in, byte_in, price_in, form_of, go_on, read_word, read_words, formed, lettered, read_line}
+use Rattle.tables.specs.Lines.{number_in, price_in, form_of, go_on, read_words}
 
 -- a value that has room in its cell
 abbrev value_fits : Option Value → Bool

@@ -78,7 +78,8 @@ pub(crate) fn next_word(line: &[u8], at: usize) -> Option<Word>
 
 // Where the first word of a line lies; its length is 0 where the line has no words.
 pub fn first_word(line: &[u8]) -> BadWord
-    ensures { result ≡ bad_word (next_word line.now 0) }
+    ensures told { result ≡ bad_word (next_word line.now 0) }
+    ensures within { result.place + result.length ≤ length line.now + 1 }
 {
     word_behind(line, 0).spoils()
 }

@@ -1,5 +1,5 @@
 -- The cells of a form's row, and the text of each.
-use Rattle.std.specs.Prelude.{ℕ, Bool, true, List, [], ◌∷◌, Some, None, decimal, nat_lt}
+use Rattle.std.specs.Prelude.{ℕ, Bool, true, List, [], ◌∷◌, Some, None, decimal}
 use Rattle.forms.specs.declared.form.Form as form
 use Rattle.forms.specs.declared.form.Form.{Form}
 use Rattle.prints.specs.Texts.{price_text}

@@ -30,5 +30,5 @@ row_begins =
 pub record Worked : Type 0 where
   pub two_rows : sheet_written (at_20 12 7 1 200 ∷ at_20 34 8 2 100 ∷ [])
       ≡ (0 ∷ 2 ∷ 0 ∷ 10 ∷ 0 ∷ 40 ∷ 0 ∷ 50 ∷ 0 ∷ 40 ∷ [])
-        ++ (row_begins ++ (codes "12712020,00200" ++ (row_begins ++ codes "34822020,00100")))
+      ++ (row_begins ++ (codes "12712020,00200" ++ (row_begins ++ codes "34822020,00100")))
   pub no_rows : sheet_written [] ≡ 0 ∷ 0 ∷ []

@@ -4,8 +4,8 @@ use Rattle.making.specs.Named.{with_read}
 use Rattle.making.proofs.Joining.{all_fit, forms_join}
 use Rattle.making.proofs.sheet.add_line.Goals as goal
 
-pub returns-in-Ok : goal.returns-in-Ok
-returns-in-Ok c forms h =
+pub returns-in-Ok-clause-told : goal.returns-in-Ok-clause-told
+returns-in-Ok-clause-told c forms h =
     let form = c.in-Ok-Some.form in
     let read = rw c.in-Ok-Some.field-0-is at c.in-Ok-Some.ensures.told in
     let fit = rw c.in-Ok-Some.field-0-is at c.in-Ok-Some.ensures.fits in

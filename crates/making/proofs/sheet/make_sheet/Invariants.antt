@@ -5,8 +5,11 @@ use Rattle.making.proofs.sheet.make_sheet.Given as goal
 
 -- the draft holds the forms of the lines so far, and those with the lines to come are all that the text names
 abbrev pub invariant-loop-line : goal.invariant-loop-line
-invariant-loop-line l =
-    (goal.iterator-loop-line).can_next l.line-iterator
-    × (goal.iterator-loop-line).is_finite l.line-iterator
-    × (l.number ≡ length l.yielded)
-    × (forms : List Form) × Holds l.draft forms × (named_from (l.number + 1) (drop l.number (lines l.text)) forms ≡ forms_named l.text)
+invariant-loop-line l = record {
+  goes_on : (goal.iterator-loop-line).can_next l.line-iterator;
+  ends : (goal.iterator-loop-line).is_finite l.line-iterator;
+  counted : l.number ≡ length l.yielded;
+  forms : List Form;
+  held : Holds l.draft forms;
+  named : named_from (l.number + 1) (drop l.number (lines l.text)) forms ≡ forms_named l.text;
+}
