@@ -1,6 +1,6 @@
 mod Apart
 mod Breaking
-mod Digits
+pub mod Digits
 mod Fronts
 mod Inside
 mod Places

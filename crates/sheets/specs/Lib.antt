@@ -1,5 +1,6 @@
 pub mod Alone
 pub mod Cells
+pub mod Fits
 pub mod Layout
 pub mod Letters
 pub mod Pairs

@@ -7,7 +7,7 @@ use super::bytes::{byte_at, part_of, word_at};
 // Two kinds of one directory, by an enum and not by a trait: the definitions name the kind.
 // What a directory's pairs name; they have two bytes a number in a sheet and one in a row.
 #[derive(Clone, Copy)]
-pub(crate) enum Directory {
+pub enum Directory {
     Rows,
     Cells,
 }
@@ -33,7 +33,7 @@ impl Directory {
     }
 
     // Where a directory of `count` pairs ends.
-    pub(crate) fn end(self, count: u16) -> usize
+    pub fn end(self, count: u16) -> usize
         ensures { result ≡ directory_end self count }
     {
         match self {

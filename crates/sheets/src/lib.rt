@@ -3,7 +3,7 @@
 
 pub mod bytes;
 pub mod cells;
-mod directory;
+pub mod directory;
 pub mod letter;
 pub mod replies;
 pub mod reply;

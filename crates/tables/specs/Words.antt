@@ -1,24 +1,28 @@
 -- The words of a line.
-use Rattle.std.specs.Prelude.{ℕ, ◌+◌, ◌≤◌, Bool, not, ◌&&◌, List, drop, ◌==◌}
+use Rattle.std.specs.Prelude.{ℕ, ◌+◌, ◌≤◌, Bool, not, ◌&&◌, ◌||◌, List, drop, ◌==◌}
 use Rattle.std.specs.List.{prefix_len}
 use Rattle.tables.specs.declared.words.Run.{Run}
-use Rattle.tables.specs.declared.words.Run.TheVariants.{Spaces, Word, Name}
+use Rattle.tables.specs.declared.words.Run.TheVariants.{Blanks, Word, Name}
 use Rattle.tables.specs.declared.words.Word as word
 use Rattle.tables.specs.declared.words.BadWord.{BadWord}
 
--- spaces; a word's bytes, which are neither ' ' nor '#'; a name's, up to '='
+-- a space, a tab or a carriage return
+abbrev pub is_blank : ℕ → Bool
+is_blank b = b == 32 || b == 9 || b == 13
+
+-- blanks; a word's bytes, which are neither blanks nor '#'; a name's, up to '='
 abbrev pub takes : Run → ℕ → Bool
-takes Spaces b = b == 32
-takes Word b = not (b == 32) && not (b == 35)
+takes Blanks b = is_blank b
+takes Word b = not (is_blank b) && not (b == 35)
 takes Name b = not (b == 61)
 
 -- the word that starts at a place
 abbrev pub word_from : List ℕ → ℕ → word.Word
 word_from line start = record { start = start; size = prefix_len (takes Word) (drop start line) }
 
--- the word behind the spaces at a place; of no bytes at the end of the line and at a comment
+-- the word behind the blanks at a place; of no bytes at the end of the line and at a comment
 abbrev pub next_word : List ℕ → ℕ → word.Word
-next_word line at = word_from line (at + prefix_len (takes Spaces) (drop at line))
+next_word line at = word_from line (at + prefix_len (takes Blanks) (drop at line))
 
 -- what is said of a word that spoils its line: its place, from 1, and its length
 abbrev pub bad_word : word.Word → BadWord

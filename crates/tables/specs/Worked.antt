@@ -15,12 +15,14 @@ Spoilt line place length = read_line line ≡ Err (record { place = place; lengt
 pub record Worked : Type 0 where
   pub no_words : read_line (codes "") ≡ Ok None
   pub spaces : read_line (codes "   ") ≡ Ok None
+  pub tab_and_return : read_line (codes "\t\r") ≡ Ok None
   pub comment : read_line (codes "  # Z") ≡ Ok None
   pub closing : Asks (codes "Z") Closing
   pub opening : Asks (codes "O day=2") (Opening (record { day = Some 2 }))
   pub cancel : Asks (codes "X firm=12 number=3") (Cancel (record { firm = Some 12; number = Some 3 }))
   pub blank_cell : Asks (codes "X number=3") (Cancel (record { firm = None; number = Some 3 }))
   pub any_order : Asks (codes " X  number=003   firm=12# late") (Cancel (record { firm = Some 12; number = Some 3 }))
+  pub tabs_between : Asks (codes "X\tfirm=12\t number=3\r") (Cancel (record { firm = Some 12; number = Some 3 }))
   pub out_of_range : Asks (codes "X firm=999999999999") (Cancel (record { firm = Some 999999999999; number = None }))
   pub words_for_sides : Asks (codes "A firm=1 side=sell tag=0") (MassCancel (record { firm = Some 1; side = Some 2; tag = Some 0; investor = None }))
   pub change : Asks (codes "M number=7 price=0,05 validity=gtc") (Change (record {
@@ -49,6 +51,7 @@ pub record Worked : Type 0 where
   pub unknown_letter : Spoilt (codes " Y firm=12") 2 1
   pub long_letter : Spoilt (codes "XX firm=12") 1 2
   pub unknown_name : Spoilt (codes "X firm=12 side=1") 11 6
+  pub behind_tabs : Spoilt (codes "\tX\tfirm=a") 4 6
   pub twice : Spoilt (codes "X firm=12  firm=12") 12 7
   pub no_value : Spoilt (codes "X firm=") 3 5
   pub no_name : Spoilt (codes "X =12") 3 3

@@ -1,5 +1,6 @@
 // A whole line.
-ghost use Rattle.std.specs.Prelude.{◌≡◌, ◌≤◌, length, IfErr, Ok, Err, MatchResult};
+ghost use Rattle.std.specs.Prelude.{◌≡◌, ◌≤◌, length, true, IfOk, IfErr, IfSome, Ok, Err, MatchResult};
+ghost use Rattle.sheets.specs.Fits.{fits};
 ghost use Rattle.tables.specs.Cells.{blank_cells};
 ghost use Rattle.tables.specs.Lines.{read_words, read_line};
 ghost use Rattle.tables.specs.Words.{InLine};
@@ -28,10 +29,11 @@ fn read_words(letter: Letter, line: &[u8], from: usize) -> Result<Cells, BadWord
     Ok(cells)
 }
 
-// The form that a line asks for; none where it has no words; or the word that spoils it.
+// The form that a line asks for, whose values have room in a row; none where it has no words; or the word that spoils it.
 pub fn read_line(line: &[u8]) -> Result<Option<Form>, BadWord>
     ensures told { result ≡ read_line line.now }
     ensures within { IfErr result (InLine (length line.now)) }
+    ensures fits { IfOk result (λ form. IfSome form (λ f. fits f ≡ true)) }
 {
     let Some(first) = next_word(line, 0) else {
         return Ok(None);

@@ -1,15 +1,15 @@
-// The words of a line: runs of bytes with spaces between, up to a comment.
+// The words of a line: runs of bytes with blanks between, up to a comment.
 ghost use Rattle.std.specs.Prelude.{◌≡◌, ◌+◌, ◌<◌, ◌≤◌, length, IfSome, MatchOption};
 ghost use Rattle.std.specs.List.{prefix_len};
 ghost use Rattle.sheets.specs.Layout.{part};
-ghost use Rattle.tables.specs.Words.{takes, next_word, bad_word};
+ghost use Rattle.tables.specs.Words.{is_blank, takes, next_word, bad_word};
 
 use sheets::bytes::{bytes_from, part_of};
 
 // What a run of bytes is made of. By kind, not by a closure: the definitions name each run.
 #[derive(Clone, Copy)]
 pub(crate) enum Run {
-    Spaces,
+    Blanks,
     Word,
     Name,
 }
@@ -28,13 +28,20 @@ pub struct BadWord {
     pub length: usize,
 }
 
+// A space, a tab or a carriage return.
+fn is_blank(b: u8) -> bool
+    ensures { result ≡ is_blank b }
+{
+    b == b' ' || b == b'\t' || b == b'\r'
+}
+
 impl Run {
     fn takes(self, b: u8) -> bool
         ensures { result ≡ takes self b }
     {
         match self {
-            Run::Spaces => b == b' ',
-            Run::Word => b != b' ' && b != b'#',
+            Run::Blanks => is_blank(b),
+            Run::Word => !is_blank(b) && b != b'#',
             Run::Name => b != b'=',
         }
     }
@@ -48,15 +55,33 @@ impl Run {
     }
 }
 
+// The word behind the blanks at a place of the line; it has no bytes at the end and at a comment.
+fn word_behind(line: &[u8], at: usize) -> Word
+    requires { at ≤ length line.now }
+    ensures told { result ≡ next_word line.now at }
+    ensures within { result.start + result.size ≤ length line.now }
+{
+    let start = at + Run::Blanks.count(bytes_from(line, at));
+    let size = Run::Word.count(bytes_from(line, start));
+    Word { start, size }
+}
+
 // The word that comes next from a place of the line; none at its end and at a comment.
 pub(crate) fn next_word(line: &[u8], at: usize) -> Option<Word>
     requires { at ≤ length line.now }
     ensures told { MatchOption result ((next_word line.now at).size ≡ 0) (λ w. w ≡ next_word line.now at) }
     ensures within { IfSome result (λ w. (1 ≤ w.size) × (w.start + w.size ≤ length line.now)) }
 {
-    let start = at + Run::Spaces.count(bytes_from(line, at));
-    let size = Run::Word.count(bytes_from(line, start));
-    (size > 0).then_some(Word { start, size })
+    let word = word_behind(line, at);
+    (word.size > 0).then_some(word)
+}
+
+// Where the first word of a line lies; its length is 0 where the line has no words.
+pub fn first_word(line: &[u8]) -> BadWord
+    ensures told { result ≡ bad_word (next_word line.now 0) }
+    ensures within { result.place + result.length ≤ length line.now + 1 }
+{
+    word_behind(line, 0).spoils()
 }
 
 impl Word {

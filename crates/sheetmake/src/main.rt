@@ -1,0 +1,40 @@
+// Reads a text from standard input, a line for each row, and writes the sheet of these rows.
+#![tactic(auto)]
+
+use making::refused::{Refused, Why};
+use making::sheet::make_sheet;
+use std::io::{Read, Write};
+use std::process::ExitCode;
+
+fn main(rt: HostRuntime) -> anyhow::Result<ExitCode> {
+    run(&rt)
+}
+
+fn run(rt: &HostRuntime) -> anyhow::Result<ExitCode> {
+    let heap = rt.alloc();
+    let mut text = Vec::new(heap);
+    rt.stdin().read_to_end(&mut text)?;
+    match make_sheet(heap, text.as_slice())? {
+        Ok(sheet) => {
+            rt.stdout().write_all(sheet.as_slice())?;
+            Ok(ExitCode::SUCCESS)
+        }
+        Err(refused) => {
+            print_refused(rt, text.as_slice(), refused)?;
+            Ok(ExitCode::FAILURE)
+        }
+    }
+}
+
+// The line that is refused, its word that is to blame, and why.
+fn print_refused(rt: &HostRuntime, text: &[u8], refused: Refused) -> anyhow::Result<()> {
+    let line = refused.line;
+    let word = String::from_utf8_lossy(rt.alloc(), refused.word(text))?;
+    let why = match refused.why {
+        Why::Word => "",
+        Why::Rows => ": a sheet has at most 512 rows",
+        Why::Bytes => ": a sheet has at most 65535 bytes",
+    };
+    eprintln!(rt; "sheetmake: line {line}: cannot take \"{word}\"{why}")?;
+    Ok(())
+}

@@ -1,0 +1,5 @@
+pub mod Digits
+pub mod Named
+pub mod Back
+pub mod Texts
+pub mod Cuts
