@@ -72,3 +72,8 @@ pub record InLine (n size : ℕ) (r : Refused) : Type 0 where
 -- a draft has exactly the rows of some forms, each of which fits
 abbrev pub Holds : Draft → List Form → Type 0
 Holds d forms = (rows d ≡ map row_written forms) × (list_all fits forms ≡ true)
+
+-- a draft that held some forms holds a line's form besides, or the line is refused
+abbrev pub Follows : ℕ → List ℕ → List Form → Draft → Result (Unit {0}) Refused → Type 0
+Follows n line forms d (Ok done) = (after : List Form) × (with_line n line forms ≡ Ok after) × Holds d after
+Follows n line forms d (Err e) = with_line n line forms ≡ Err e

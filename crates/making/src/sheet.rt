@@ -2,7 +2,7 @@
 ghost use Rattle.std.specs.Prelude.{◌≡◌, List, length, Ok, Err, IfOk, IfErr, MatchResult, vec_items};
 ghost use Rattle.forms.specs.declared.form.Form.{Form};
 ghost use Rattle.writing.specs.Written.{ReadsAs, sheet_written};
-ghost use Rattle.making.specs.Named.{with_line, forms_named, InLine, Blames, Holds};
+ghost use Rattle.making.specs.Named.{forms_named, InLine, Blames, Holds, Follows};
 
 use crate::refused::{Refused, Why};
 use std::alloc::{AllocError, Global};
@@ -17,7 +17,7 @@ fn add_line(
     number: usize,
     line: &[u8],
 ) -> Result<Result<(), Refused>, AllocError>
-    ensures told { IfOk result (λ told. (forms : List Form) → Holds draft.old forms → MatchResult told (λ _. (after : List Form) × (with_line number line.now forms ≡ Ok after) × Holds draft.new after) (λ e. with_line number line.now forms ≡ Err e)) }
+    ensures told { IfOk result (λ told. (forms : List Form) → Holds draft.old forms → Follows number line.now forms draft.new told) }
     ensures within { IfOk result (λ told. IfErr told (InLine number (length line.now))) }
 {
     let form = match read_line(line) {

@@ -8,9 +8,9 @@ use super::slip::Slip;
 use forms::refusal::Refusal;
 
 // The most rows and bytes that a sheet may have.
-const MOST_ROWS: u16 = 512;
+pub const MOST_ROWS: u16 = 512;
 
-const MOST_BYTES: usize = 65535;
+pub const MOST_BYTES: usize = 65535;
 
 // A sheet's bytes, how many rows it has, and how many were handed out.
 // `done` is counted beside the bytes: a reader over the input slice, which walks the directory where it lies, is the form that the owner named. No Iterator: what is drawn must be used up.

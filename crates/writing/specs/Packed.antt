@@ -27,7 +27,3 @@ packed d head parts = laid_out d head (map length parts) (concat parts)
 abbrev pub most_bytes : Directory → ℕ
 most_bytes Rows = 65535
 most_bytes Cells = 255
-
--- the bytes of a directory of so many pairs and of its parts
-abbrev pub size_of : Directory → ℕ → ℕ → ℕ
-size_of d count bytes = directory_end d count + bytes

@@ -11,10 +11,8 @@ use crate::parts::Parts;
 use crate::row::write_row;
 use forms::form::Form;
 use sheets::directory::Directory;
+use sheets::sheet::MOST_ROWS;
 use std::alloc::{AllocError, Global};
-
-// The most rows that a sheet may have.
-const MOST_ROWS: usize = 512;
 
 impl Draft {
     // A sheet without rows.
@@ -33,7 +31,7 @@ impl Draft {
         let Some(row) = write_row(heap, form)? else {
             return Ok(Err(Excess::Value));
         };
-        if self.rows.lengths.len() >= MOST_ROWS {
+        if self.rows.lengths.len() >= usize::from(MOST_ROWS) {
             return Ok(Err(Excess::Rows));
         }
         if !self.rows.takes(row.as_slice()) {

@@ -5,6 +5,7 @@ ghost use Rattle.writing.specs.Packed.{number_bytes, laid_out, most_bytes};
 
 use crate::parts::Parts;
 use sheets::directory::Directory;
+use sheets::sheet::MOST_BYTES;
 use std::alloc::{AllocError, Global};
 
 // The most bytes that a sheet or a row may have, so that each can be named.
@@ -12,7 +13,7 @@ fn most_bytes(directory: Directory) -> usize
     ensures { result ≡ most_bytes directory }
 {
     match directory {
-        Directory::Rows => 65_535,
+        Directory::Rows => MOST_BYTES,
         Directory::Cells => 255,
     }
 }

@@ -2,6 +2,7 @@
 ghost use Rattle.std.specs.Prelude.{◌≡◌, ◌≤◌, true, length, map, Ok, IfOk, IfSome, vec_items};
 ghost use Rattle.std.specs.List.{list_all};
 ghost use Rattle.std.specs.Option.{option_map};
+ghost use Rattle.forms.specs.declared.form.Form.TheVariants.{Entry, Change, MassCancel};
 ghost use Rattle.sheets.specs.Rows.{read_form};
 ghost use Rattle.sheets.specs.declared.directory.Directory.TheVariants.{Cells};
 ghost use Rattle.writing.specs.Texts.{letter, letter_byte, cells, text, has_room};
@@ -10,7 +11,7 @@ ghost use Rattle.writing.specs.Written.{Packs, row_if_fits};
 
 use crate::cell::Cell;
 use crate::parts::Parts;
-use forms::form::Form;
+use forms::form::{ChangeForm, EntryForm, Form, MassCancelForm};
 use sheets::directory::Directory;
 use sheets::letter::Letter;
 use std::alloc::{AllocError, Global};
@@ -42,44 +43,61 @@ fn letter_byte(letter: Letter) -> u8
 }
 
 // The cells of a form, in the order of its row.
+fn entry_cells(f: EntryForm) -> [Cell; 12]
+    ensures { result ≡ cells (Entry f) }
+{
+    [
+        Cell::Number(f.firm),
+        Cell::Number(f.client),
+        Cell::Number(f.side),
+        Cell::OneByte(f.kind),
+        Cell::Number(f.validity),
+        Cell::Price(f.price),
+        Cell::Price(f.trigger),
+        Cell::Number(f.quantity),
+        Cell::Number(f.disclosed),
+        Cell::Number(f.minimum),
+        Cell::Number(f.investor),
+        Cell::Number(f.tag),
+    ]
+}
+
+fn change_cells(f: ChangeForm) -> [Cell; 7]
+    ensures { result ≡ cells (Change f) }
+{
+    [
+        Cell::Number(f.firm),
+        Cell::Number(f.client),
+        Cell::Number(f.number),
+        Cell::Price(f.price),
+        Cell::Number(f.quantity),
+        Cell::Number(f.disclosed),
+        Cell::Number(f.validity),
+    ]
+}
+
+fn mass_cancel_cells(f: MassCancelForm) -> [Cell; 4]
+    ensures { result ≡ cells (MassCancel f) }
+{
+    [
+        Cell::Number(f.firm),
+        Cell::Number(f.side),
+        Cell::Number(f.tag),
+        Cell::Number(f.investor),
+    ]
+}
+
 fn cells(heap: Global, form: Form) -> Result<Vec<Cell>, AllocError>
     ensures { IfOk result (λ v. vec_items v ≡ cells form) }
 {
-    let cells = match form {
-        Form::Entry(f) => vec![in heap;
-            Cell::Number(f.firm),
-            Cell::Number(f.client),
-            Cell::Number(f.side),
-            Cell::OneByte(f.kind),
-            Cell::Number(f.validity),
-            Cell::Price(f.price),
-            Cell::Price(f.trigger),
-            Cell::Number(f.quantity),
-            Cell::Number(f.disclosed),
-            Cell::Number(f.minimum),
-            Cell::Number(f.investor),
-            Cell::Number(f.tag),
-        ]?,
-        Form::Change(f) => vec![in heap;
-            Cell::Number(f.firm),
-            Cell::Number(f.client),
-            Cell::Number(f.number),
-            Cell::Price(f.price),
-            Cell::Number(f.quantity),
-            Cell::Number(f.disclosed),
-            Cell::Number(f.validity),
-        ]?,
-        Form::Cancel(f) => vec![in heap; Cell::Number(f.firm), Cell::Number(f.number)]?,
-        Form::MassCancel(f) => vec![in heap;
-            Cell::Number(f.firm),
-            Cell::Number(f.side),
-            Cell::Number(f.tag),
-            Cell::Number(f.investor),
-        ]?,
-        Form::Closing => Vec::new(heap),
-        Form::Opening(f) => vec![in heap; Cell::Number(f.day)]?,
-    };
-    Ok(cells)
+    match form {
+        Form::Entry(f) => Vec::from_slice(heap, &entry_cells(f)),
+        Form::Change(f) => Vec::from_slice(heap, &change_cells(f)),
+        Form::Cancel(f) => Vec::from_slice(heap, &[Cell::Number(f.firm), Cell::Number(f.number)]),
+        Form::MassCancel(f) => Vec::from_slice(heap, &mass_cancel_cells(f)),
+        Form::Closing => Ok(Vec::new(heap)),
+        Form::Opening(f) => Vec::from_slice(heap, &[Cell::Number(f.day)]),
+    }
 }
 
 // Whether each cell has room for its value.

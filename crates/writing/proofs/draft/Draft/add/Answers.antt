@@ -9,8 +9,8 @@ returns-in_default c =
     let none : None ≡ row_if_fits c.args.form = search rules in
     no_value (rows c.args.self.now) c.args.form none
 
-pub returns-then-len-ge-MOST_ROWS : goal.returns-then-len-ge-MOST_ROWS
-returns-then-len-ge-MOST_ROWS c =
+pub returns-then-len-from : goal.returns-then-len-from
+returns-then-len-from c =
     let kept = c.args.self.now.rows in
     let row : Some (vec_items c.in-Some.row) ≡ row_if_fits c.args.form = search rules in
     no_row (rows c.args.self.now) c.args.form _ row (omega (arith, length-cut (vec_items kept.lengths) (vec_items kept.bytes)))
