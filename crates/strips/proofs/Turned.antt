@@ -1,8 +1,7 @@
 -- A list that stands the other way round: what is written, put in and taken out at one end's count is so at the other's.
-use Rattle.std.proofs.Common.{◌≡◌, ℕ, suc, ◌+◌, ◌-◌, ◌<◌, ◌≤◌, List, [], ◌∷◌, ◌++◌, length, take, drop, set, reverse, get_or, Some, None, sym, refl, ap, ◌∙◌, arith}
-use Rattle.std.specs.List.{insert, remove, slice_get}
-use Rattle.std.proofs.lemmas.List.{reverse-append, length-reverse, take-append-drop, length-drop, take_at, drop_at, append_assoc, set_split, get_or-reverse}
-use Rattle.std.proofs.lemmas.Option.{slice_get-get_or, slice_get_past}
+use Rattle.std.proofs.Common.{◌≡◌, ℕ, suc, ◌+◌, ◌-◌, ◌<◌, ◌≤◌, List, [], ◌∷◌, ◌++◌, length, take, drop, set, reverse, sym, refl, ap, ◌∙◌, arith}
+use Rattle.std.specs.List.{insert, remove}
+use Rattle.std.proofs.lemmas.List.{reverse-append, length-reverse, take-append-drop, length-drop, take_at, drop_at, append_assoc, set_split}
 
 module _ {X : Type 0} (xs : List X) where
   -- the first p of the list that is turned are the last p, turned; the rest are the others, turned
@@ -37,9 +36,3 @@ module _ {X : Type 0} (xs : List X) where
       ap reverse (set_split xs j x (omega arith))
       ∙ turned_between (take j xs) (drop (suc j) xs) x
       ∙ rw (← turned_front (suc j) p (omega arith), ← turned_rest j (suc p) (omega arith)) (sym (set_split (reverse xs) p x (omega (arith, length-reverse xs))))
-
-  pub turned_get : (i : ℕ) → i < length xs → (d : X) → slice_get (reverse xs) i ≡ Some (get_or xs (length xs - 1 - i) d)
-  turned_get i h d = slice_get-get_or (reverse xs) i d (omega (arith, length-reverse xs)) ∙ ap Some (get_or-reverse xs i d h)
-
-  pub turned_past : (i : ℕ) → length xs ≤ i → slice_get (reverse xs) i ≡ None
-  turned_past i h = slice_get_past (reverse xs) i (omega (arith, length-reverse xs))

@@ -10,6 +10,7 @@ use crate::seen::Seen;
 use orders::ranked::Numbered;
 
 // The count stands beside the slice, since who borrows a slice cannot make it shorter: the form that the owner named.
+// What is seen covers every record that stands, whatever else lies in the slice.
 #[derive(Drop)]
 pub struct RankedRow<'a, T: Numbered> {
     rows: &'a mut [T],

@@ -32,7 +32,7 @@ impl<'a, T: Ranked + Copy> RankedRow<'a, T> {
         MOST.min(self.rows.len())
     }
 
-    // How many records stand in the row. Cut to the room at each use, so that the row needs no fact about what is lent.
+    // How many records stand in the row. Cut to the room at each use, so that the row needs no fact about how much is lent.
     fn used(&self) -> usize
         ensures is { result ≡ length (strip_run self.now).rows }
         ensures within { result ≤ places self.now }
