@@ -1,4 +1,4 @@
--- A row that is written reads as its form, and a sheet as its forms.
+-- A row that is written reads as its form.
 use Rattle.std.proofs.Common.{◌≡◌, ℕ, zero, suc, ◌*◌, ◌≤◌, Bool, true, false, ◌&&◌, List, [], ◌∷◌, ◌++◌, length, map, subst, Some, None, Ok, Option, ap, ◌∙◌, refl, ltb-true, length-append, arith}
 use Rattle.std.proofs.lemmas.Bool.Decides.{nat_tests}
 use Rattle.std.proofs.lemmas.List.{length-map}
@@ -8,28 +8,27 @@ use Rattle.forms.specs.declared.form.Form as form
 use Rattle.forms.specs.declared.form.Form.{Form}
 use Rattle.sheets.specs.Fits.{fits, number_fits}
 use Rattle.sheets.specs.Cells.{read_number, read_price, read_type}
-use Rattle.sheets.specs.Layout.{word, part_at, first_misplaced, directory_end}
+use Rattle.sheets.specs.Layout.{part_at, first_misplaced, directory_end}
 use Rattle.sheets.specs.Letters.{letter_of, cells_of}
 use Rattle.sheets.specs.Rows.{number_cell, price_cell, type_cell, in_cell, read_cells, check_cells, read_form}
-use Rattle.sheets.specs.Sheets.{row_count}
-use Rattle.sheets.specs.declared.directory.Directory.TheVariants.{Rows, Cells}
+use Rattle.sheets.specs.declared.directory.Directory.TheVariants.{Cells}
 use Rattle.sheets.specs.declared.letter.Letter.{Letter}
 use Rattle.sheets.specs.declared.letter.Letter.TheVariants.{Entry, Change, Cancel, MassCancel, Closing, Opening}
 use Rattle.writing.specs.declared.cell.Cell.{Cell}
 use Rattle.writing.specs.declared.cell.Cell.TheVariants.{Number, OneByte, Price}
 use Rattle.writing.specs.Texts.{letter, letter_byte, cells, text, has_room}
-use Rattle.writing.specs.Packed.{number_bytes, pairs}
-use Rattle.writing.specs.Written.{row_written, sheet_written, ReadsAs}
+use Rattle.writing.specs.Packed.{pairs}
+use Rattle.writing.specs.Written.{row_written}
 use Rattle.writing.proofs.Digits.{number_back, price_back}
-use Rattle.writing.proofs.Named.{packed_keeps, packed_part, packed_size, directory_size}
+use Rattle.writing.proofs.Named.{packed_keeps, packed_part, directory_size}
 
 -- an element that is mapped, and one of a list that passes a test
-mapped_at : {A B : Type 0} (g : A → B) (xs : List A) (k : ℕ) (x : A) → slice_get xs k ≡ Some x → slice_get (map g xs) k ≡ Some (g x)
+pub mapped_at : {A B : Type 0} (g : A → B) (xs : List A) (k : ℕ) (x : A) → slice_get xs k ≡ Some x → slice_get (map g xs) k ≡ Some (g x)
 mapped_at g [] k x e = cc
 mapped_at g (y ∷ ys) zero x e = cc
 mapped_at g (y ∷ ys) (suc k) x e = mapped_at g ys k x e
 
-passes_at : {A : Type 0} (p : A → Bool) (xs : List A) (k : ℕ) (x : A) → list_all p xs ≡ true → slice_get xs k ≡ Some x → p x ≡ true
+pub passes_at : {A : Type 0} (p : A → Bool) (xs : List A) (k : ℕ) (x : A) → list_all p xs ≡ true → slice_get xs k ≡ Some x → p x ≡ true
 passes_at p [] k x h e = cc
 passes_at p (y ∷ ys) zero x h e = grind arith
 passes_at p (y ∷ ys) (suc k) x h e = passes_at p ys k x (grind arith) e
@@ -144,33 +143,3 @@ row_back f h =
     let has = λ (k : ℕ) (c : Cell) (e : slice_get (cells f) k ≡ Some c).
     has_from_text (row_written f) k c (packed_part Cells (head f) parts refl k (text c) (mapped_at text (cells f) k c e)) (passes_at has_room (cells f) k c (fits_by_cells f ∙ h) e) in
     form_read (letter f) (length (cells f)) _ f (as_many_cells f) long keeps (cells_read (row_written f) f has)
-
--- the sheet of forms that fit
-module _ (fs : List Form) (fit : list_all fits fs ≡ true) (few : length fs ≤ 512) (short : length (sheet_written fs) ≤ 65535) where
-  count_there : word (sheet_written fs) 0 ≡ length fs
-  count_there = omega (arith, length-map fs row_written)
-
-  keeps : first_misplaced Rows (sheet_written fs) (length fs) ≡ None
-  keeps =
-      subst (λ (n : ℕ). first_misplaced Rows (sheet_written fs) n ≡ None) (length-map fs row_written)
-      (packed_keeps Rows (number_bytes Rows (length (map row_written fs))) (map row_written fs) refl)
-
-  long : directory_end Rows (length fs) ≤ length (sheet_written fs)
-  long = omega (arith, packed_size Rows (number_bytes Rows (length (map row_written fs))) (map row_written fs) refl, length-map fs row_written)
-
-  count_read : row_count (sheet_written fs) ≡ Ok (length fs)
-  count_read =
-      let a : ◌≡◌ {A = Bool} (nat_lt (length (sheet_written fs)) 2) false = grind (arith, nat_tests, long) in
-      let b : ◌≡◌ {A = Bool} (nat_lt 65535 (length (sheet_written fs))) false = grind (arith, nat_tests) in
-      let c : ◌≡◌ {A = Bool} (nat_lt 512 (length fs)) false = grind (arith, nat_tests) in
-      let d : ◌≡◌ {A = Bool} (nat_lt (length (sheet_written fs)) (directory_end Rows (length fs))) false = grind (arith, nat_tests, long) in
-      rw count_there (rw (a, b, c, d) refl)
-
-  pub sheet_back : ReadsAs fs (sheet_written fs)
-  sheet_back = record {
-    accepted = rw (count_read, keeps) refl;
-    counted = count_read;
-    rows = λ k f e.
-        ap read_form (packed_part Rows (number_bytes Rows (length (map row_written fs))) (map row_written fs) refl k (row_written f) (mapped_at row_written fs k f e))
-        ∙ row_back f (passes_at fits fs k f fit e);
-  }

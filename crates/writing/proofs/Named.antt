@@ -66,6 +66,7 @@ next d bs j at p ps l = record {
   place = omega (arith, length-append l.front p, l.place);
 }
 
+-- so no pair is misplaced, and pair k tells part k
 none_misplaced : (d : Directory) (bs : List ℕ) (j at : ℕ) (parts : List (List ℕ)) → Lies d bs j at parts
     → walk d bs (length parts) j at ≡ None
 none_misplaced d bs j at [] l = refl
@@ -90,10 +91,12 @@ directory_size Cells at [] = refl
 directory_size Rows at (n ∷ ns) = omega (arith, directory_size Rows (at + n) ns)
 directory_size Cells at (n ∷ ns) = omega (arith, directory_size Cells (at + n) ns)
 
+-- a directory begins behind two bytes
 begins : (d : Directory) → 2 ≡ directory_end d 0
 begins Rows = refl
 begins Cells = refl
 
+-- all of it, of parts that are packed
 module _ (d : Directory) (head : List ℕ) (parts : List (List ℕ)) (two : length head ≡ 2) where
   packed_lies : Lies d (packed d head parts) 0 (directory_end d (length (map length parts))) parts
   packed_lies = record {

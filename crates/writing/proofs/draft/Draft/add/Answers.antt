@@ -1,7 +1,8 @@
 use Rattle.std.proofs.Common.{◌≡◌, ◌<◌, length, None, Some, vec_items, sym, ap, ◌∙◌, leb-true, leb-false, arith, rules}
 use Rattle.writing.specs.Drafts.{rows}
 use Rattle.writing.specs.Written.{row_if_fits}
-use Rattle.writing.proofs.Cuts.{length-cut, cut_more, sheet_more, no_value, no_row, no_byte, joined}
+use Rattle.writing.proofs.Cuts.{length-cut, cut_more, sheet_more}
+use Rattle.writing.proofs.Joins.{no_value, no_row, no_byte, joined}
 use Rattle.writing.proofs.draft.Draft.add.Goals as goal
 
 pub returns-in_default : goal.returns-in_default

@@ -3,7 +3,7 @@ use Rattle.std.proofs.lemmas.List.{length-map}
 use Rattle.std.proofs.lemmas.Result.{IfOk-weaker}
 use Rattle.writing.specs.Drafts.{rows}
 use Rattle.writing.specs.Written.{row_written, sheet_of, sheet_written, ReadsAs}
-use Rattle.writing.proofs.Back.{sheet_back}
+use Rattle.writing.proofs.Whole.{sheet_back}
 use Rattle.writing.proofs.Cuts.{length-cut, sheet_cut, sheet_size}
 use Rattle.writing.proofs.draft.Draft.bytes.Goals as goal
 
