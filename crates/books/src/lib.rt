@@ -1,10 +1,10 @@
-// What a book of orders and stops is, and the one book over four lanes of plain rows.
+// What a book of orders and stops is, and the one book over four stores of plain rows.
 #![tactic(auto)]
 
 pub mod book;
-pub mod kept;
-pub mod lane;
-pub mod lanes;
-pub mod pick;
+pub mod looks;
+pub mod orders_of;
 pub mod queue;
-pub mod walk;
+pub mod queue_store;
+pub mod stored_book;
+pub mod stored_row;

@@ -3,7 +3,7 @@ ghost use Rattle.std.specs.Prelude.{◌≡◌};
 ghost use Rattle.orders.specs.Rows.{order_of, stop_of};
 ghost use Rattle.books.specs.declared.queue.Record.TheVariants.{Standing, Waiting};
 ghost use Rattle.books.specs.Model.{queue_of, number_of, order_of_record, record_rank};
-ghost use Rattle.orders.specs.RanksLemmas.{before_apart, before_chain, before_settled};
+ghost use Rattle.orders.specs.RanksLemmas.{ranks_ahead_irreflexive, ranks_ahead_transitive, ranks_ahead_connected};
 
 use orders::order::{Order, Stop};
 use orders::rank::Rank;
@@ -61,7 +61,7 @@ impl From<StopRow> for Record {
 }
 
 impl Numbered for Record {
-    ghost num = { number_of };
+    ghost number = { number_of };
 
     ghost firm = { λ r. (order_of_record r).firm };
 
@@ -85,13 +85,13 @@ impl Numbered for Record {
 
 // A record ranks as its row does.
 impl Ranked for Record {
-    ghost place = { record_rank };
+    ghost rank = { record_rank };
 
-    ghost apart = { λ a. before_apart (record_rank a) };
+    ghost irreflexive = { λ a. ranks_ahead_irreflexive (record_rank a) };
 
-    ghost chain = { λ a b c. before_chain (record_rank a) (record_rank b) (record_rank c) };
+    ghost transitive = { λ a b c. ranks_ahead_transitive (record_rank a) (record_rank b) (record_rank c) };
 
-    ghost settled = { λ a b. before_settled (record_rank a) (record_rank b) };
+    ghost connected = { λ a b. ranks_ahead_connected (record_rank a) (record_rank b) };
 
     fn rank(&self) -> Rank {
         match *self {

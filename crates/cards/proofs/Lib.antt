@@ -1,1 +1,1 @@
-pub mod Holding
+pub mod ClientOverFirst

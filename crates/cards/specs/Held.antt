@@ -5,7 +5,7 @@ use Rattle.orders.specs.declared.order.Order.{Order}
 use Rattle.orders.specs.declared.order.Stop.{Stop}
 use Rattle.orders.specs.declared.rank.Rank.{Rank}
 use Rattle.orders.specs.Ranks.{same_rank}
-use Rattle.books.specs.Lists.{swapped}
+use Rattle.books.specs.RankedLists.{swapped}
 use Rattle.books.specs.Model.{Both, at, with_at, Queues, rank_of, stop_rank_of}
 use Rattle.books.specs.declared.queue.Queue.{Queue}
 use Rattle.books.specs.declared.queue.Queue.TheVariants.{Orders, Stops}
@@ -55,6 +55,6 @@ abbrev pub covered : Held → Queues → Queues
 covered h q = record {
   stands = record { buy = over rank_of h.orders.buy q.stands.buy; sell = over rank_of h.orders.sell q.stands.sell };
   waits = record { buy = over stop_rank_of h.stops.buy q.waits.buy; sell = over stop_rank_of h.stops.sell q.waits.sell };
-  stands_room = q.stands_room;
-  waits_room = q.waits_room;
+  standing_capacity = q.standing_capacity;
+  waiting_capacity = q.waiting_capacity;
 }

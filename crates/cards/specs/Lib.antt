@@ -1,5 +1,5 @@
-pub mod Sides
+pub mod HeldSides
 pub mod Held
-pub mod Cards
-pub mod Covered
-pub mod Cover
+pub mod CardQueues
+pub mod CardCalls
+pub mod HeldOverFirst

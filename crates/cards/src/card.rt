@@ -1,10 +1,10 @@
 // The book below, and the four plain rows that are held over its first records.
 ghost use Rattle.std.specs.Prelude.{◌≡◌, true};
 ghost use Rattle.orders.specs.declared.side.Side.TheVariants.{Buy, Sell};
-ghost use Rattle.cards.specs.Sides.{order_side, stop_side};
+ghost use Rattle.cards.specs.HeldSides.{order_side, stop_side};
 
+pub mod book;
 mod held;
-pub mod work;
 
 use orders::row::{OrderRow, StopRow};
 

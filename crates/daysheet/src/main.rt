@@ -2,15 +2,15 @@
 #![tactic(auto)]
 
 use books::book::Book;
-use books::lane::Lane;
+use books::orders_of::orders_in;
 use books::queue::Queue;
-use books::walk::orders_in;
+use books::queue_store::QueueStore;
 use cards::card::FrontCard;
-use desk::row::work_row;
-use desk::whole::admit;
+use display::text::{LineText, ReplyText, StandingText};
 use laws::calls::set_up;
 use orders::side::Side;
-use prints::text::{LineText, ReplyText, StandingText};
+use sheet_runner::row::work_row;
+use sheet_runner::sheet::admit;
 use sheets::replies::Replies;
 use sheets::reply::Reply;
 use sheets::sheet::Sheet;
@@ -56,7 +56,7 @@ fn work_rows<B: Book>(
     tape: &mut Tape,
     replies: &mut Replies,
 ) -> anyhow::Result<()> {
-    // Kept till the day is taken apart: a `?` in the loop would lose it.
+    // StoredRow till the day is taken apart: a `?` in the loop would lose it.
     let mut printed = Ok(());
     while let Some(drawn) = sheet.draw() {
         let before = tape.all().len();

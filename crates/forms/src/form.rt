@@ -7,7 +7,7 @@ pub struct EntryForm {
     pub firm: Option<u64>,
     pub client: Option<u64>,
     pub side: Option<u64>,
-    pub kind: Option<u8>,
+    pub order_type: Option<u8>,
     pub validity: Option<u64>,
     pub price: Option<Price>,
     pub trigger: Option<Price>,

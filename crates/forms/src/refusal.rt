@@ -1,6 +1,6 @@
 // Every refusal, and what a reply says of it.
 ghost use Rattle.std.specs.Prelude.{◌≡◌};
-ghost use Rattle.forms.specs.Refusals.{number, cell, place};
+ghost use Rattle.forms.specs.Refusals.{refusal_number, refusal_cell, refusal_place};
 
 // Cells count from 1, and so do places in a cell.
 #[derive(Clone, Copy)]
@@ -19,7 +19,7 @@ pub enum Refusal {
     TapeFull,
     NoStamps,
     UnknownOrder,
-    ClientHeld,
+    ClientNumberTaken,
     ChangeOfStop,
     QuantityTraded,
     DisclosedBarred,
@@ -29,7 +29,7 @@ pub enum Refusal {
 impl Refusal {
     // The published number; a variant with fields has no `as u8`, so they are listed.
     pub fn number(self) -> u8
-        ensures { result ≡ number self }
+        ensures { result ≡ refusal_number self }
     {
         match self {
             Refusal::ShortSheet => 1,
@@ -46,7 +46,7 @@ impl Refusal {
             Refusal::TapeFull => 22,
             Refusal::NoStamps => 23,
             Refusal::UnknownOrder => 24,
-            Refusal::ClientHeld => 25,
+            Refusal::ClientNumberTaken => 25,
             Refusal::ChangeOfStop => 27,
             Refusal::QuantityTraded => 28,
             Refusal::DisclosedBarred => 29,
@@ -56,7 +56,7 @@ impl Refusal {
 
     // The cell that it names, or 0, which the published reply has for none.
     pub fn cell(self) -> u8
-        ensures { result ≡ cell self }
+        ensures { result ≡ refusal_cell self }
     {
         match self {
             Refusal::CellMisplaced { cell }
@@ -69,7 +69,7 @@ impl Refusal {
 
     // The place in that cell, or 0, likewise.
     pub fn place(self) -> u8
-        ensures { result ≡ place self }
+        ensures { result ≡ refusal_place self }
     {
         match self {
             Refusal::Unreadable { place, .. } => place,

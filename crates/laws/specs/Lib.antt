@@ -1,9 +1,9 @@
 pub mod Accounts
-pub mod Quiet
+pub mod Quiescence
 pub mod Tally
 pub mod Fair
 pub mod Runs
-pub mod Teeth
-pub mod Smooth
+pub mod Counterexamples
+pub mod WithinRoom
 pub mod Reaching
-pub mod Kept
+pub mod OneStep

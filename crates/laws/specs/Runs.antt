@@ -8,27 +8,27 @@ use Rattle.tapes.specs.declared.line.Line.{Line}
 use Rattle.forms.specs.declared.form.Form.{Form}
 use Rattle.forms.specs.declared.form.Form.TheVariants.{Entry, Change, Cancel, MassCancel, Closing, Opening}
 use Rattle.forms.specs.declared.refusal.Refusal.{Refusal}
-use Rattle.matching.specs.declared.asked.Asked.{Asked}
-use Rattle.matching.specs.declared.clock.Clock.{Clock}
-use Rattle.checks.specs.declared.changes.ChangeAsked.{ChangeAsked}
-use Rattle.checks.specs.Entries.{read_entry}
-use Rattle.checks.specs.Changes.{read_change}
+use Rattle.matching.specs.declared.new_order.NewOrder.{NewOrder}
+use Rattle.matching.specs.declared.session.Session.{Session}
+use Rattle.validation.specs.declared.changes.AmendRequest.{AmendRequest}
+use Rattle.validation.specs.Entries.{read_entry}
+use Rattle.validation.specs.Changes.{read_change}
 use Rattle.venue.specs.declared.day.Day.{Day}
 use Rattle.venue.specs.declared.day.Day.TheVariants.{Open, Closed}
 use Rattle.venue.specs.Days.{State, at_least_1, set_up, answer, step}
 use Rattle.laws.specs.Accounts.{Balanced}
-use Rattle.laws.specs.Quiet.{Uncrossed, Unripe}
-use Rattle.laws.specs.Tally.{Tally, Request, entry, change, removal, starting, noted, at_ease}
+use Rattle.laws.specs.Quiescence.{Uncrossed, Unripe}
+use Rattle.laws.specs.Tally.{Tally, Request, entry, change, removal, starting, noted, incoming_rested}
 use Rattle.laws.specs.Fair.{FairLines}
 
-abbrev pub clock_of : Day → Clock
-clock_of (Open o) = o.clock
-clock_of (Closed c) = c.clock
+abbrev pub session_of : Day → Session
+session_of (Open o) = o.session
+session_of (Closed c) = c.session
 
 pub record Lawful (s : State) : Type 0 where
-  pub balanced : Balanced s.reel.lines s.queues
+  pub balanced : Balanced s.tape.lines s.queues
   pub uncrossed : Uncrossed s.queues.stands
-  pub unripe : Unripe (clock_of s.day).last s.queues
+  pub unripe : Unripe (session_of s.day).last_price s.queues
 
 abbrev pub Throughout : (State → Type 0) → List Form → State → Type 0
 Throughout P [] s = P s
@@ -40,37 +40,37 @@ AlwaysLawful = (day stamp : ℕ) (q : Queues) (limit : ℕ) (forms : List Form) 
 
 -- what a form asks, as far as the tally needs it
 
-abbrev pub entry_asked : Result Asked Refusal → Request
-entry_asked (Ok a) = entry a
-entry_asked (Err e) = removal
+abbrev pub entry_requested : Result NewOrder Refusal → Request
+entry_requested (Ok a) = entry a
+entry_requested (Err e) = removal
 
-abbrev pub change_asked : Result ChangeAsked Refusal → Request
-change_asked (Ok a) = change a.change
-change_asked (Err e) = removal
+abbrev pub change_requested : Result AmendRequest Refusal → Request
+change_requested (Ok a) = change a.change
+change_requested (Err e) = removal
 
 abbrev pub request : Form → Request
-request (Entry form) = entry_asked (read_entry form)
-request (Change form) = change_asked (read_change form)
+request (Entry form) = entry_requested (read_entry form)
+request (Change form) = change_requested (read_change form)
 request (Cancel form) = removal
 request (MassCancel form) = removal
 request Closing = removal
 request (Opening form) = removal
 
 -- the lines that a step wrote, the latest first
-abbrev pub written : State → State → List Line
-written s s' = take (length s'.reel.lines - length s.reel.lines) s'.reel.lines
+abbrev pub step_lines : State → State → List Line
+step_lines s s' = take (length s'.tape.lines - length s.tape.lines) s'.tape.lines
 
 -- the tally is fed accepted steps alone; at a step's end the incoming order stands
-abbrev pub fed : Result (Unit {0}) Refusal → Request → List Line → Tally → Tally
-fed (Ok x) q l t = at_ease (noted q l t)
-fed (Err e) q l t = t
+abbrev pub tally_fed : Result (Unit {0}) Refusal → Request → List Line → Tally → Tally
+tally_fed (Ok x) q l t = incoming_rested (noted q l t)
+tally_fed (Err e) q l t = t
 
 abbrev pub tallied : Form → State → Tally → Tally
-tallied form s t = fed (answer form s) (request form) (written s (step form s)) t
+tallied form s t = tally_fed (answer form s) (request form) (step_lines s (step form s)) t
 
 abbrev pub FairThroughout : List Form → State → Tally → Type 0
 FairThroughout [] s t = Unit {0}
-FairThroughout (form ∷ forms) s t = FairLines (request form) (written s (step form s)) t × FairThroughout forms (step form s) (tallied form s t)
+FairThroughout (form ∷ forms) s t = FairLines (request form) (step_lines s (step form s)) t × FairThroughout forms (step form s) (tallied form s t)
 
 -- the tally is empty at setting up, and its turns are counted from the first stamp
 abbrev pub AlwaysFair : Type 0
@@ -87,7 +87,7 @@ tally_after [] s t = t
 tally_after (form ∷ forms) s t = tally_after forms (step form s) (tallied form s t)
 
 -- the laws after one more step, whatever setting and steps led to this state
-abbrev pub Upheld : Form → State → Type 0
-Upheld form s =
+abbrev pub HoldsAfter : Form → State → Type 0
+HoldsAfter form s =
     (day stamp : ℕ) (q : Queues) (limit : ℕ) (forms : List Form) → s ≡ after forms (set_up day stamp q limit) →
-    Lawful (step form s) × FairLines (request form) (written s (step form s)) (tally_after forms (set_up day stamp q limit) (starting (at_least_1 stamp)))
+    Lawful (step form s) × FairLines (request form) (step_lines s (step form s)) (tally_after forms (set_up day stamp q limit) (starting (at_least_1 stamp)))

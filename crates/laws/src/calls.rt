@@ -1,12 +1,11 @@
 // Setting up, a step and a whole run, with the laws in their contracts: the calls that the desk and the program make.
 // Book and tape are lent to each, side by side: the form that the owner named.
 ghost use Rattle.std.specs.Prelude.{◌≡◌};
-ghost use Rattle.tapes.specs.Reels.{reel};
 ghost use Rattle.venue.specs.Days.{state, set_up, at_least_1, answer, step};
 ghost use Rattle.venue.specs.declared.day.Day.TheVariants.{Open};
 ghost use Rattle.laws.specs.Tally.{starting};
-ghost use Rattle.laws.specs.Kept.{Smoothly, FilledBy};
-ghost use Rattle.laws.specs.Runs.{Lawful, Throughout, FairThroughout, Upheld, after};
+ghost use Rattle.laws.specs.OneStep.{StepWithinRoom, StepFilled};
+ghost use Rattle.laws.specs.Runs.{Lawful, Throughout, FairThroughout, HoldsAfter, after};
 
 use books::book::Book;
 use forms::form::Form;
@@ -17,7 +16,7 @@ use venue::setup;
 
 // Clears the book and the tape and opens the day.
 pub fn set_up<B: Book>(book: &mut B, tape: &mut Tape, day: u16, stamp: u32) -> Day
-    ensures left { state (B.queues book.new) tape.new result ≡ set_up day stamp (B.queues book.old) (reel tape.old).limit }
+    ensures state { state (B.queues book.new) tape.new result ≡ set_up day stamp (B.queues book.old) tape.old.limit }
     ensures lawful { Lawful (state (B.queues book.new) tape.new result) }
 {
     let open = setup::set_up(book, tape, day, stamp);
@@ -31,20 +30,20 @@ pub fn step<B: Book>(
     tape: &mut Tape,
     form: Form,
 ) -> (Day, Result<(), Refusal>)
-    ensures told { result.1 ≡ answer form (state (B.queues book.old) tape.old day) }
-    ensures left { state (B.queues book.new) tape.new result.0 ≡ step form (state (B.queues book.old) tape.old day) }
-    ensures upheld { Upheld form (state (B.queues book.old) tape.old day) }
-    ensures smooth { Smoothly form (state (B.queues book.old) tape.old day) }
-    ensures filled { FilledBy form (state (B.queues book.old) tape.old day) }
+    ensures answer { result.1 ≡ answer form (state (B.queues book.old) tape.old day) }
+    ensures state { state (B.queues book.new) tape.new result.0 ≡ step form (state (B.queues book.old) tape.old day) }
+    ensures holds_after { HoldsAfter form (state (B.queues book.old) tape.old day) }
+    ensures within_room { StepWithinRoom form (state (B.queues book.old) tape.old day) }
+    ensures filled { StepFilled form (state (B.queues book.old) tape.old day) }
 {
     day.step(book, tape, form)
 }
 
 // Sets up and takes a whole list of steps; the laws hold after setting up and after each of them.
 pub fn run<B: Book>(book: &mut B, tape: &mut Tape, day: u16, stamp: u32, forms: &[Form]) -> Day
-    ensures left { state (B.queues book.new) tape.new result ≡ after forms.now (set_up day stamp (B.queues book.old) (reel tape.old).limit) }
-    ensures lawful { Throughout Lawful forms.now (set_up day stamp (B.queues book.old) (reel tape.old).limit) }
-    ensures fair { FairThroughout forms.now (set_up day stamp (B.queues book.old) (reel tape.old).limit) (starting (at_least_1 stamp)) }
+    ensures state { state (B.queues book.new) tape.new result ≡ after forms.now (set_up day stamp (B.queues book.old) tape.old.limit) }
+    ensures lawful { Throughout Lawful forms.now (set_up day stamp (B.queues book.old) tape.old.limit) }
+    ensures fair { FairThroughout forms.now (set_up day stamp (B.queues book.old) tape.old.limit) (starting (at_least_1 stamp)) }
 {
     let mut current = set_up(book, tape, day, stamp);
     for form in forms {

@@ -3,7 +3,7 @@ ghost use Rattle.std.specs.Prelude.{◌≡◌};
 ghost use Rattle.forms.specs.declared.form.Form.TheVariants.{Entry, Change, Cancel, MassCancel, Closing, Opening};
 ghost use Rattle.venue.specs.Days.{state, answer, step, Closes, Opens};
 ghost use Rattle.venue.specs.declared.day.Day.TheVariants.{Open, Closed};
-ghost use Rattle.laws.specs.Runs.{Upheld};
+ghost use Rattle.laws.specs.Runs.{HoldsAfter};
 
 use books::book::Book;
 use forms::form::{CancelForm, ChangeForm, EntryForm, MassCancelForm, OpeningForm};
@@ -18,9 +18,9 @@ pub fn enter<B: Book>(
     tape: &mut Tape,
     form: EntryForm,
 ) -> (OpenDay, Result<(), Refusal>)
-    ensures told { result.1 ≡ answer (Entry form) (state (B.queues book.old) tape.old (Open day)) }
-    ensures left { state (B.queues book.new) tape.new (Open result.0) ≡ step (Entry form) (state (B.queues book.old) tape.old (Open day)) }
-    ensures upheld { Upheld (Entry form) (state (B.queues book.old) tape.old (Open day)) }
+    ensures answer { result.1 ≡ answer (Entry form) (state (B.queues book.old) tape.old (Open day)) }
+    ensures state { state (B.queues book.new) tape.new (Open result.0) ≡ step (Entry form) (state (B.queues book.old) tape.old (Open day)) }
+    ensures holds_after { HoldsAfter (Entry form) (state (B.queues book.old) tape.old (Open day)) }
 {
     day.enter(book, tape, form)
 }
@@ -32,9 +32,9 @@ pub fn change<B: Book>(
     tape: &mut Tape,
     form: ChangeForm,
 ) -> (OpenDay, Result<(), Refusal>)
-    ensures told { result.1 ≡ answer (Change form) (state (B.queues book.old) tape.old (Open day)) }
-    ensures left { state (B.queues book.new) tape.new (Open result.0) ≡ step (Change form) (state (B.queues book.old) tape.old (Open day)) }
-    ensures upheld { Upheld (Change form) (state (B.queues book.old) tape.old (Open day)) }
+    ensures answer { result.1 ≡ answer (Change form) (state (B.queues book.old) tape.old (Open day)) }
+    ensures state { state (B.queues book.new) tape.new (Open result.0) ≡ step (Change form) (state (B.queues book.old) tape.old (Open day)) }
+    ensures holds_after { HoldsAfter (Change form) (state (B.queues book.old) tape.old (Open day)) }
 {
     day.change(book, tape, form)
 }
@@ -46,9 +46,9 @@ pub fn cancel<B: Book>(
     tape: &mut Tape,
     form: CancelForm,
 ) -> (OpenDay, Result<(), Refusal>)
-    ensures told { result.1 ≡ answer (Cancel form) (state (B.queues book.old) tape.old (Open day)) }
-    ensures left { state (B.queues book.new) tape.new (Open result.0) ≡ step (Cancel form) (state (B.queues book.old) tape.old (Open day)) }
-    ensures upheld { Upheld (Cancel form) (state (B.queues book.old) tape.old (Open day)) }
+    ensures answer { result.1 ≡ answer (Cancel form) (state (B.queues book.old) tape.old (Open day)) }
+    ensures state { state (B.queues book.new) tape.new (Open result.0) ≡ step (Cancel form) (state (B.queues book.old) tape.old (Open day)) }
+    ensures holds_after { HoldsAfter (Cancel form) (state (B.queues book.old) tape.old (Open day)) }
 {
     day.cancel(book, tape, form)
 }
@@ -60,9 +60,9 @@ pub fn mass_cancel<B: Book>(
     tape: &mut Tape,
     form: MassCancelForm,
 ) -> (OpenDay, Result<(), Refusal>)
-    ensures told { result.1 ≡ answer (MassCancel form) (state (B.queues book.old) tape.old (Open day)) }
-    ensures left { state (B.queues book.new) tape.new (Open result.0) ≡ step (MassCancel form) (state (B.queues book.old) tape.old (Open day)) }
-    ensures upheld { Upheld (MassCancel form) (state (B.queues book.old) tape.old (Open day)) }
+    ensures answer { result.1 ≡ answer (MassCancel form) (state (B.queues book.old) tape.old (Open day)) }
+    ensures state { state (B.queues book.new) tape.new (Open result.0) ≡ step (MassCancel form) (state (B.queues book.old) tape.old (Open day)) }
+    ensures holds_after { HoldsAfter (MassCancel form) (state (B.queues book.old) tape.old (Open day)) }
 {
     day.mass_cancel(book, tape, form)
 }
@@ -73,8 +73,8 @@ pub fn close<B: Book>(
     book: &mut B,
     tape: &mut Tape,
 ) -> Result<ClosedDay, (OpenDay, Refusal)>
-    ensures told { Closes day (B.queues book.old) tape.old result (B.queues book.new) tape.new }
-    ensures upheld { Upheld Closing (state (B.queues book.old) tape.old (Open day)) }
+    ensures answer { Closes day (B.queues book.old) tape.old result (B.queues book.new) tape.new }
+    ensures holds_after { HoldsAfter Closing (state (B.queues book.old) tape.old (Open day)) }
 {
     day.close(book, tape)
 }
@@ -86,8 +86,8 @@ pub fn open<B: Book>(
     tape: &Tape,
     form: OpeningForm,
 ) -> Result<OpenDay, (ClosedDay, Refusal)>
-    ensures told { Opens form day (B.queues book.now) tape.now result }
-    ensures upheld { Upheld (Opening form) (state (B.queues book.now) tape.now (Closed day)) }
+    ensures answer { Opens form day (B.queues book.now) tape.now result }
+    ensures holds_after { HoldsAfter (Opening form) (state (B.queues book.now) tape.now (Closed day)) }
 {
     day.open(book, tape, form)
 }

@@ -6,8 +6,8 @@ pub mod days;
 
 ghost use Rattle.laws.specs.Runs.{AlwaysLawful, AlwaysFair};
 ghost use Rattle.laws.specs.Reaching.{ReachMeans, AlwaysFilled};
-ghost use Rattle.laws.specs.Smooth.{AlwaysSmooth, EnteredAsAsked, ChangedAsAsked};
-ghost use Rattle.laws.specs.Teeth.{Teeth};
+ghost use Rattle.laws.specs.WithinRoom.{AlwaysWithinRoom, EnteredAsRequested, ChangedAsRequested};
+ghost use Rattle.laws.specs.Counterexamples.{Counterexamples};
 
 // After setting up and after every step, every lot is accounted for, no bid meets an offer and no stop is ripe.
 pub fn always_lawful()
@@ -20,19 +20,19 @@ pub fn always_fair()
 {}
 
 // Inside a step neither the tape nor the stamps run out, no number is put twice, and no refill is refused.
-pub fn always_smooth()
-    ensures { AlwaysSmooth }
+pub fn always_within_room()
+    ensures { AlwaysWithinRoom }
 {}
 
 // What an accepted entry or change asks for is what the order has.
-pub fn as_asked()
-    ensures entered { EnteredAsAsked }
-    ensures changed { ChangedAsAsked }
+pub fn as_requested()
+    ensures entered { EnteredAsRequested }
+    ensures changed { ChangedAsRequested }
 {}
 
 // Each law can be broken: by a lost or doubled lot, by a trade out of turn, past a limit or with a stranger, by a bid at an offer's price, by a ripe stop.
-pub fn laws_bite()
-    ensures { Teeth }
+pub fn laws_can_fail()
+    ensures { Counterexamples }
 {}
 
 // Reach is what an order without end would trade; so whoever wants all, or a minimum, trades that or nothing.

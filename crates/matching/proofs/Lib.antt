@@ -1,6 +1,6 @@
-pub mod Parts
-pub mod Loads
-pub mod Turns
-pub mod Loops
-pub mod Walks
-pub mod Sweeps
+pub mod PartsFall
+pub mod WeightOfQueues
+pub mod WeightFalls
+pub mod LoopTurns
+pub mod ReachByChains
+pub mod SweepTurns

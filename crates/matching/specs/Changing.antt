@@ -8,37 +8,37 @@ use Rattle.orders.specs.declared.order.Order.{Order}
 use Rattle.orders.specs.Prices.{same_price}
 use Rattle.orders.specs.Rows.{order_of}
 use Rattle.orders.specs.Lots.{showing}
-use Rattle.matching.specs.declared.change.Change.{Change}
-use Rattle.matching.specs.Model.{Floor, amends, recalls, happen}
-use Rattle.matching.specs.Next.{settled}
+use Rattle.matching.specs.declared.amendment.Amendment.{Amendment}
+use Rattle.matching.specs.Model.{MatchState, amends, requeues, apply}
+use Rattle.matching.specs.Running.{run_to_rest}
 
 -- a blank cell leaves the order's own value
-abbrev pub new_price : Change → Order → Price
+abbrev pub new_price : Amendment → Order → Price
 new_price c o = unwrap_or c.price o.price
 
-abbrev pub new_quantity : Change → Order → ℕ
+abbrev pub new_quantity : Amendment → Order → ℕ
 new_quantity c o = unwrap_or c.quantity o.quantity
 
-abbrev pub new_disclosed : Change → Order → ℕ
+abbrev pub new_disclosed : Amendment → Order → ℕ
 new_disclosed c o = unwrap_or c.disclosed o.disclosed
 
-abbrev pub new_validity : Change → Order → Validity
+abbrev pub new_validity : Amendment → Order → Validity
 new_validity c o = unwrap_or c.validity o.validity
 
 -- the lots that an order has traded
-abbrev pub traded : Order → ℕ
-traded o = o.quantity - o.leaves
+abbrev pub lots_traded : Order → ℕ
+lots_traded o = o.quantity - o.open_lots
 
 -- the new quantity counts the lots already traded
-abbrev pub new_leaves : Change → Order → ℕ
-new_leaves c o = new_quantity c o - traded o
+abbrev pub new_open_lots : Amendment → Order → ℕ
+new_open_lots c o = new_quantity c o - lots_traded o
 
 -- a different price, a larger quantity or a different disclosed costs the turn
-abbrev pub loses_turn : Change → Order → Bool
+abbrev pub loses_turn : Amendment → Order → Bool
 loses_turn c o = not (same_price (new_price c o) o.price) || (nat_lt o.quantity (new_quantity c o) || not (new_disclosed c o == o.disclosed))
 
-abbrev pub changed : (turn shown : ℕ) → Change → Order → Order
-changed turn shown c o = order_of (record {
+abbrev pub changed_order : (turn shown : ℕ) → Amendment → Order → Order
+changed_order turn shown c o = order_of (record {
   number = o.number;
   turn = turn;
   firm = o.firm;
@@ -46,7 +46,7 @@ changed turn shown c o = order_of (record {
   side = o.side;
   price = new_price c o;
   quantity = new_quantity c o;
-  leaves = new_leaves c o;
+  open_lots = new_open_lots c o;
   shown = shown;
   disclosed = new_disclosed c o;
   validity = new_validity c o;
@@ -55,13 +55,13 @@ changed turn shown c o = order_of (record {
 })
 
 -- in its place, an order shows the smaller of shown and open
-abbrev pub amended : Change → Order → Order
-amended c o = changed o.turn (min o.shown (new_leaves c o)) c o
+abbrev pub amended_order : Amendment → Order → Order
+amended_order c o = changed_order o.turn (min o.shown (new_open_lots c o)) c o
 
 -- under a new turn, it shows anew
-abbrev pub recalled : ℕ → Change → Order → Order
-recalled stamp c o = changed stamp (showing (new_disclosed c o) (new_leaves c o)) c o
+abbrev pub requeued_order : ℕ → Amendment → Order → Order
+requeued_order stamp c o = changed_order stamp (showing (new_disclosed c o) (new_open_lots c o)) c o
 
 -- an order that loses its turn leaves its queue and trades as incoming; any other keeps its place
-abbrev pub change_at : Change → Side → ℕ → Order → Floor → Floor
-change_at c s i o f = cond (loses_turn c o) (settled (happen (recalls s i (recalled f.clock.stamp c o)) f)) (happen (amends i (amended c o)) f)
+abbrev pub change_at : Amendment → Side → ℕ → Order → MatchState → MatchState
+change_at c s i o f = cond (loses_turn c o) (run_to_rest (apply (requeues s i (requeued_order f.session.next_stamp c o)) f)) (apply (amends i (amended_order c o)) f)

@@ -1,8 +1,8 @@
-pub mod Clocks
+pub mod Sessions
 pub mod Model
-pub mod Next
+pub mod Running
 pub mod Reach
 pub mod Entering
 pub mod Changing
 pub mod Removing
-pub mod Stepping
+pub mod MatchStates

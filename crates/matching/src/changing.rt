@@ -1,13 +1,13 @@
 // How a standing order is changed.
 ghost use Rattle.std.specs.Prelude.{◌≡◌, Some, None};
-ghost use Rattle.matching.specs.Model.{line_R, amends, recalls, happen};
-ghost use Rattle.matching.specs.Changing.{amended, recalled, change_at};
-ghost use Rattle.matching.specs.Stepping.{floor};
-ghost use Rattle.matching.specs.declared.clock.Clock.{Clock as Numbers};
+ghost use Rattle.matching.specs.Model.{line_R, amends, requeues, apply};
+ghost use Rattle.matching.specs.Changing.{amended_order, requeued_order, change_at};
+ghost use Rattle.matching.specs.MatchStates.{match_state};
+ghost use Rattle.matching.specs.declared.session.Session.{Session as SessionValue};
 
-use crate::change::Change;
-use crate::clock::Clock;
-use crate::settling::settle;
+use crate::amendment::Amendment;
+use crate::running::run_to_rest;
+use crate::session::Session;
 use books::book::Book;
 use books::queue::{Queue, Record};
 use orders::order::Order;
@@ -27,45 +27,45 @@ fn replaced(order: Order) -> Line
 
 // The order at a place keeps it.
 fn amend<B: Book>(book: &mut B, tape: &mut Tape, at: usize, order: Order)
-    ensures { (c : Numbers) → floor (B.queues book.new) tape.new c None ≡ happen (amends at order) (floor (B.queues book.old) tape.old c None) }
+    ensures { (c : SessionValue) → match_state (B.queues book.new) tape.new c None ≡ apply (amends at order) (match_state (B.queues book.old) tape.old c None) }
 {
     let _ = book.rewrite(at, Record::Standing(order));
     tape.write(replaced(order));
 }
 
 // The order at a place leaves its queue and comes in under a new turn.
-fn recall<B: Book>(
+fn requeue<B: Book>(
     book: &mut B,
     tape: &mut Tape,
-    clock: &mut Clock,
+    session: &mut Session,
     side: Side,
     at: usize,
     order: Order,
 )
-    ensures { floor (B.queues book.new) tape.new clock.new (Some order) ≡ happen (recalls side at order) (floor (B.queues book.old) tape.old clock.old None) }
+    ensures { match_state (B.queues book.new) tape.new session.new (Some order) ≡ apply (requeues side at order) (match_state (B.queues book.old) tape.old session.old None) }
 {
     let _ = book.take(Queue::Orders(side), at);
     tape.write(replaced(order));
-    let _ = clock.draw();
+    let _ = session.draw();
 }
 
 // The order that stands at a place of a side is changed. Its place and itself are given side by side, as a look has told them.
 pub fn change<B: Book>(
     book: &mut B,
     tape: &mut Tape,
-    clock: &mut Clock,
-    asked: Change,
+    session: &mut Session,
+    amendment: Amendment,
     side: Side,
     at: usize,
     order: Order,
 )
-    ensures { floor (B.queues book.new) tape.new clock.new None ≡ change_at asked side at order (floor (B.queues book.old) tape.old clock.old None) }
+    ensures { match_state (B.queues book.new) tape.new session.new None ≡ change_at amendment side at order (match_state (B.queues book.old) tape.old session.old None) }
 {
-    if asked.loses_turn(order) {
-        let incoming = asked.recalled(clock.stamp, order);
-        recall(book, tape, clock, side, at, incoming);
-        settle(book, tape, clock, Some(incoming));
+    if amendment.loses_turn(order) {
+        let incoming = amendment.requeued_order(session.next_stamp, order);
+        requeue(book, tape, session, side, at, incoming);
+        run_to_rest(book, tape, session, Some(incoming));
         return;
     }
-    amend(book, tape, at, asked.amended(order));
+    amend(book, tape, at, amendment.amended_order(order));
 }

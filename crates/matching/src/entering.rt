@@ -1,16 +1,16 @@
 // How an entry comes in.
 ghost use Rattle.std.specs.Prelude.{◌≡◌, Some, None};
-ghost use Rattle.matching.specs.Model.{line_A, misses, happen};
-ghost use Rattle.matching.specs.Next.{next};
-ghost use Rattle.matching.specs.Stepping.{floor};
-ghost use Rattle.matching.specs.Entering.{order_from, short, judged, arrival_as, arrival, enter};
-ghost use Rattle.books.specs.Model.{Queues as Lists};
-ghost use Rattle.matching.specs.declared.asked.Kind.TheVariants.{StopLimit};
+ghost use Rattle.matching.specs.Model.{line_A, accepts_unmatched, apply};
+ghost use Rattle.matching.specs.Running.{next_event};
+ghost use Rattle.matching.specs.MatchStates.{match_state};
+ghost use Rattle.matching.specs.Entering.{entered_order, falls_short, accepts_or_cancels, arrival_as, arrival, enter};
+ghost use Rattle.books.specs.Model.{Queues as QueuesValue};
+ghost use Rattle.matching.specs.declared.new_order.OrderType.TheVariants.{StopLimit};
 
-use crate::asked::{Asked, Kind};
-use crate::clock::Clock;
+use crate::new_order::{NewOrder, OrderType};
 use crate::reaching::reach;
-use crate::settling::settle;
+use crate::running::run_to_rest;
+use crate::session::Session;
 use crate::trading::{cancelled, first_order};
 use books::book::Book;
 use books::queue::Record;
@@ -24,7 +24,7 @@ use tapes::tape::Tape;
 fn entered(order: Order) -> Line
     ensures { result ≡ line_A order }
 {
-    Line::Entered {
+    Line::Accepted {
         number: order.number,
         limit: Some(order.price),
         quantity: order.quantity,
@@ -32,30 +32,30 @@ fn entered(order: Order) -> Line
 }
 
 // Whether reach falls short of what the entry wants at once.
-fn is_short<B: Book>(book: &B, asked: Asked, order: Order) -> bool
-    ensures { result ≡ short asked order (B.queues book.now) }
+fn falls_short<B: Book>(book: &B, new_order: NewOrder, order: Order) -> bool
+    ensures { result ≡ falls_short new_order order (B.queues book.now) }
 {
-    let all = asked.validity == Validity::Fok;
-    if asked.minimum == 0 && !all {
+    let all = new_order.validity == Validity::Fok;
+    if new_order.minimum == 0 && !all {
         return false;
     }
     let lots = reach(book, order);
-    lots < u64::from(asked.minimum) || (all && lots < u64::from(asked.quantity))
+    lots < u64::from(new_order.minimum) || (all && lots < u64::from(new_order.quantity))
 }
 
-// An order that is no stop is written, and comes into the hand or is cancelled whole.
-fn come_in<B: Book>(
+// An order that is no stop is written, and becomes the incoming one or is cancelled whole.
+fn accept<B: Book>(
     book: &B,
     tape: &mut Tape,
-    clock: &mut Clock,
-    asked: Asked,
+    session: &mut Session,
+    new_order: NewOrder,
     price: Price,
 ) -> Option<Order>
-    ensures { floor (B.queues book.now) tape.new clock.new result ≡ happen (judged asked (order_from asked price clock.old.stamp) (B.queues book.now)) (floor (B.queues book.now) tape.old clock.old None) }
+    ensures { match_state (B.queues book.now) tape.new session.new result ≡ apply (accepts_or_cancels new_order (entered_order new_order price session.old.next_stamp) (B.queues book.now)) (match_state (B.queues book.now) tape.old session.old None) }
 {
-    let order = asked.order(price, clock.draw());
+    let order = new_order.order(price, session.draw());
     tape.write(entered(order));
-    if is_short(book, asked, order) {
+    if falls_short(book, new_order, order) {
         tape.write(cancelled(order, Cause::ShortReach));
         return None;
     }
@@ -63,11 +63,11 @@ fn come_in<B: Book>(
 }
 
 // A market order finds no opposite.
-fn miss(tape: &mut Tape, clock: &mut Clock, quantity: u32)
-    ensures { (q : Lists) → floor q tape.new clock.new None ≡ happen (misses clock.old.stamp quantity) (floor q tape.old clock.old None) }
+fn accept_unmatched(tape: &mut Tape, session: &mut Session, quantity: u32)
+    ensures { (q : QueuesValue) → match_state q tape.new session.new None ≡ apply (accepts_unmatched session.old.next_stamp quantity) (match_state q tape.old session.old None) }
 {
-    let number = clock.draw();
-    tape.write(Line::Entered {
+    let number = session.draw();
+    tape.write(Line::Accepted {
         number,
         limit: None,
         quantity,
@@ -81,47 +81,52 @@ fn miss(tape: &mut Tape, clock: &mut Clock, quantity: u32)
 }
 
 // A stop is written, and joins its queue or is cancelled.
-fn park<B: Book>(
+fn accept_stop<B: Book>(
     book: &mut B,
     tape: &mut Tape,
-    clock: &mut Clock,
-    asked: Asked,
+    session: &mut Session,
+    new_order: NewOrder,
     limit: Price,
     trigger: Price,
 )
-    ensures { floor (B.queues book.new) tape.new clock.new None ≡ happen (arrival_as (StopLimit limit trigger) asked clock.old.stamp (B.queues book.old)) (floor (B.queues book.old) tape.old clock.old None) }
+    ensures { match_state (B.queues book.new) tape.new session.new None ≡ apply (arrival_as (StopLimit limit trigger) new_order session.old.next_stamp (B.queues book.old)) (match_state (B.queues book.old) tape.old session.old None) }
 {
-    let order = asked.order(limit, clock.draw());
+    let order = new_order.order(limit, session.draw());
     tape.write(entered(order));
     if book.put(Record::Waiting(Stop { order, trigger })).is_err() {
-        tape.write(cancelled(order, Cause::NoPlace));
+        tape.write(cancelled(order, Cause::NotPut));
     }
 }
 
-// The entry is written, and waits, is turned away or comes into the hand.
-fn arrive<B: Book>(book: &mut B, tape: &mut Tape, clock: &mut Clock, asked: Asked) -> Option<Order>
-    ensures { floor (B.queues book.new) tape.new clock.new result ≡ happen (arrival asked clock.old.stamp (B.queues book.old)) (floor (B.queues book.old) tape.old clock.old None) }
+// The entry is written, and waits, is turned away or becomes the incoming one.
+fn arrive<B: Book>(
+    book: &mut B,
+    tape: &mut Tape,
+    session: &mut Session,
+    new_order: NewOrder,
+) -> Option<Order>
+    ensures { match_state (B.queues book.new) tape.new session.new result ≡ apply (arrival new_order session.old.next_stamp (B.queues book.old)) (match_state (B.queues book.old) tape.old session.old None) }
 {
-    match asked.kind {
-        Kind::Limit(price) => come_in(book, tape, clock, asked, price),
-        Kind::Market => match first_order(book, asked.side.other()) {
-            Some(first) => come_in(book, tape, clock, asked, first.price),
+    match new_order.order_type {
+        OrderType::Limit(price) => accept(book, tape, session, new_order, price),
+        OrderType::Market => match first_order(book, new_order.side.opposite()) {
+            Some(first) => accept(book, tape, session, new_order, first.price),
             None => {
-                miss(tape, clock, asked.quantity);
+                accept_unmatched(tape, session, new_order.quantity);
                 None
             }
         },
-        Kind::StopLimit { limit, trigger } => {
-            park(book, tape, clock, asked, limit, trigger);
+        OrderType::StopLimit { limit, trigger } => {
+            accept_stop(book, tape, session, new_order, limit, trigger);
             None
         }
     }
 }
 
 // An entry: it comes in, trades, and the stops that it makes ripe do too.
-pub fn enter<B: Book>(book: &mut B, tape: &mut Tape, clock: &mut Clock, asked: Asked)
-    ensures { floor (B.queues book.new) tape.new clock.new None ≡ enter asked (floor (B.queues book.old) tape.old clock.old None) }
+pub fn enter<B: Book>(book: &mut B, tape: &mut Tape, session: &mut Session, new_order: NewOrder)
+    ensures { match_state (B.queues book.new) tape.new session.new None ≡ enter new_order (match_state (B.queues book.old) tape.old session.old None) }
 {
-    let hand = arrive(book, tape, clock, asked);
-    settle(book, tape, clock, hand);
+    let incoming = arrive(book, tape, session, new_order);
+    run_to_rest(book, tape, session, incoming);
 }

@@ -1,15 +1,15 @@
 // How orders trade: the incoming order, the stops that it sets off, changes and removals, above any book.
-// Book, tape and clock are lent side by side: a struct of the three would have to say in each clause that they are still the same loans.
+// Book, tape and session are lent side by side: a struct of the three would have to say in each clause that they are still the same loans.
 #![tactic(auto)]
 
-pub mod asked;
-pub mod change;
+pub mod amendment;
 pub mod changing;
-pub mod clock;
 pub mod entering;
-pub mod firing;
-pub mod pick;
+pub mod new_order;
 pub mod reaching;
+pub mod removal;
 pub mod removing;
-pub mod settling;
+pub mod running;
+pub mod session;
+pub mod stops;
 pub mod trading;

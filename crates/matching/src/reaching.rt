@@ -1,14 +1,14 @@
 // Reach: the lots that an incoming order could trade at once.
 ghost use Rattle.std.specs.Prelude.{◌≡◌, ◌*◌, ◌≤◌, length, if◌then◌else◌};
 ghost use Rattle.orders.specs.Prices.{same_price};
-ghost use Rattle.orders.specs.Sides.{other};
+ghost use Rattle.orders.specs.Sides.{opposite};
 ghost use Rattle.books.specs.Model.{at};
-ghost use Rattle.books.specs.Walk.{left};
-ghost use Rattle.matching.specs.Reach.{better, own, own_price, counts, open_lots, shown_ahead, reach};
+ghost use Rattle.books.specs.OrdersLeft.{orders_left};
+ghost use Rattle.matching.specs.Reach.{better, own, own_price, counts, counted_open_lots, shown_ahead, reach};
 
 use books::book::Book;
+use books::orders_of::{OrdersOf, orders_in};
 use books::queue::Queue;
-use books::walk::{Walk, orders_in};
 use orders::order::Order;
 use orders::price::Price;
 use orders::side::Side;
@@ -25,23 +25,23 @@ fn is_better(side: Side, p: Price, q: Price) -> bool
 fn is_own(order: Order, r: Order) -> bool
     ensures { result ≡ own order r }
 {
-    order.has_investor_of(r) && order.takes(r.price)
+    order.has_investor_of(r) && order.may_trade_at(r.price)
 }
 
 fn does_count(order: Order, price: Option<Price>, r: Order) -> bool
     ensures { result ≡ counts order price r }
 {
     match price {
-        Some(p) => is_better(order.side.other(), r.price, p),
-        None => order.takes(r.price),
+        Some(p) => is_better(order.side.opposite(), r.price, p),
+        None => order.may_trade_at(r.price),
     }
 }
 
 fn counted(order: Order, price: Option<Price>, r: Order) -> u32
-    ensures { result ≡ (if counts order price r then r.leaves else 0) }
+    ensures { result ≡ (if counts order price r then r.open_lots else 0) }
 {
     if does_count(order, price, r) {
-        r.leaves
+        r.open_lots
     } else {
         0
     }
@@ -54,28 +54,28 @@ fn shown_at(r: Order, price: Price) -> u32
 }
 
 // The orders that stand opposite.
-fn opposite<B: Book>(book: &B, order: Order) -> Walk<'_, B>
-    ensures told { left B.queues result ≡ at (other order.side) (B.queues book.now).stands }
-    ensures few { length (at (other order.side) (B.queues book.now).stands) ≤ 1000000 }
+fn opposite_orders<B: Book>(book: &B, order: Order) -> OrdersOf<'_, B>
+    ensures answer { orders_left B.queues result ≡ at (opposite order.side) (B.queues book.now).stands }
+    ensures few { length (at (opposite order.side) (B.queues book.now).stands) ≤ 1000000 }
 {
-    orders_in(book, Queue::Orders(order.side.other()))
+    orders_in(book, Queue::Orders(order.side.opposite()))
 }
 
 // The price of the first opposite order within the limit that has the incoming investor.
 fn own_price<B: Book>(book: &B, order: Order) -> Option<Price>
-    ensures { result ≡ own_price order (at (other order.side) (B.queues book.now).stands) }
+    ensures { result ≡ own_price order (at (opposite order.side) (B.queues book.now).stands) }
 {
-    opposite(book, order)
+    opposite_orders(book, order)
         .find(|r| is_own(order, *r))
         .map(|r| r.price)
 }
 
 // The open lots that count.
-fn open_lots<B: Book>(book: &B, order: Order, price: Option<Price>) -> u64
+fn counted_open_lots<B: Book>(book: &B, order: Order, price: Option<Price>) -> u64
     ensures small { result ≤ 1000000 * 1000000 }
-    ensures told { result ≡ open_lots order price (at (other order.side) (B.queues book.now).stands) }
+    ensures answer { result ≡ counted_open_lots order price (at (opposite order.side) (B.queues book.now).stands) }
 {
-    opposite(book, order)
+    opposite_orders(book, order)
         .map(|r| u64::from(counted(order, price, r)))
         .sum()
 }
@@ -83,19 +83,19 @@ fn open_lots<B: Book>(book: &B, order: Order, price: Option<Price>) -> u64
 // The shown lots at a price ahead of the first opposite order that has the incoming investor.
 fn shown_ahead<B: Book>(book: &B, order: Order, price: Price) -> u64
     ensures small { result ≤ 1000000 * 1000000 }
-    ensures told { result ≡ shown_ahead order price (at (other order.side) (B.queues book.now).stands) }
+    ensures answer { result ≡ shown_ahead order price (at (opposite order.side) (B.queues book.now).stands) }
 {
-    opposite(book, order)
+    opposite_orders(book, order)
         .take_while(|r| !is_own(order, *r))
         .map(|r| u64::from(shown_at(r, price)))
         .sum()
 }
 
 pub fn reach<B: Book>(book: &B, order: Order) -> u64
-    ensures { result ≡ reach order (at (other order.side) (B.queues book.now).stands) }
+    ensures { result ≡ reach order (at (opposite order.side) (B.queues book.now).stands) }
 {
     let price = own_price(book, order);
-    let open = open_lots(book, order, price);
+    let open = counted_open_lots(book, order, price);
     match price {
         Some(p) => open + shown_ahead(book, order, p),
         None => open,

@@ -1,14 +1,14 @@
 // The incoming order and the first opposite one.
 ghost use Rattle.std.specs.Prelude.{◌≡◌, Some, None};
-ghost use Rattle.orders.specs.Sides.{other};
-ghost use Rattle.matching.specs.declared.clock.Clock.{Clock as Numbers};
-ghost use Rattle.matching.specs.Model.{line_C, fate, met, put_back, drawn_by, held, trades, happen};
-ghost use Rattle.matching.specs.Next.{first_order, leftover};
-ghost use Rattle.matching.specs.Stepping.{floor};
+ghost use Rattle.orders.specs.Sides.{opposite};
+ghost use Rattle.matching.specs.declared.session.Session.{Session as SessionValue};
+ghost use Rattle.matching.specs.Model.{line_C, outcome, after_trade, put_back, session_after_trade, incoming_left, trades, apply};
+ghost use Rattle.matching.specs.Running.{first_order, leftover};
+ghost use Rattle.matching.specs.MatchStates.{match_state};
 
-use crate::clock::Clock;
+use crate::session::Session;
 use books::book::Book;
-use books::pick::order_in;
+use books::looks::standing_order;
 use books::queue::{Queue, Record};
 use orders::order::Order;
 use orders::side::Side;
@@ -23,7 +23,7 @@ pub fn cancelled(order: Order, cause: Cause) -> Line
     Line::Cancelled {
         number: order.number,
         limit: Some(order.price),
-        lots: order.leaves,
+        lots: order.open_lots,
         cause,
     }
 }
@@ -33,17 +33,17 @@ pub fn cancelled(order: Order, cause: Cause) -> Line
 pub fn first_order<B: Book>(book: &B, side: Side) -> Option<Order>
     ensures { result ≡ first_order side (B.queues book.now) }
 {
-    order_in(book.look(Queue::Orders(side), 0))
+    standing_order(book.look(Queue::Orders(side), 0))
 }
 
 // What is left of the incoming order after a trade.
-fn left_of(order: Order, lots: u32) -> Option<Order>
-    ensures { result ≡ held lots order }
+fn incoming_left(order: Order, lots: u32) -> Option<Order>
+    ensures { result ≡ incoming_left lots order }
 {
-    if order.leaves == lots {
+    if order.open_lots == lots {
         return None;
     }
-    Some(order.renewed(order.turn, lots))
+    Some(order.refilled(order.turn, lots))
 }
 
 // An order goes back into its queue.
@@ -55,52 +55,52 @@ fn put_back<B: Book>(book: &mut B, order: Order)
 }
 
 // The first order of a side after a trade: it leaves, shows again behind its price, or stays first.
-fn rest_after<B: Book>(book: &mut B, clock: &mut Clock, side: Side, resting: Order, lots: u32)
-    ensures queues { B.queues book.new ≡ met (fate lots resting) side lots clock.old.stamp resting (B.queues book.old) }
-    ensures clock { clock.new ≡ drawn_by (fate lots resting) clock.old }
+fn after_trade<B: Book>(book: &mut B, session: &mut Session, side: Side, resting: Order, lots: u32)
+    ensures queues { B.queues book.new ≡ after_trade (outcome lots resting) side lots session.old.next_stamp resting (B.queues book.old) }
+    ensures session { session.new ≡ session_after_trade (outcome lots resting) session.old }
 {
-    if resting.leaves == lots {
+    if resting.open_lots == lots {
         let _ = book.take(Queue::Orders(side), 0);
     } else if resting.shown == lots {
         let _ = book.take(Queue::Orders(side), 0);
-        let turn = clock.draw();
-        put_back(book, resting.renewed(turn, lots));
+        let turn = session.draw();
+        put_back(book, resting.refilled(turn, lots));
     } else {
-        let _ = book.rewrite(0, Record::Standing(resting.lowered(lots)));
+        let _ = book.rewrite(0, Record::Standing(resting.reduced(lots)));
     }
 }
 
 // One trade of the incoming order with the first opposite one; answers what is left of the incoming order.
-pub fn trade_once<B: Book>(
+pub fn trade<B: Book>(
     book: &mut B,
     tape: &mut Tape,
-    clock: &mut Clock,
+    session: &mut Session,
     incoming: Order,
     resting: Order,
 ) -> Option<Order>
-    ensures { floor (B.queues book.new) tape.new clock.new result ≡ happen (trades incoming resting) (floor (B.queues book.old) tape.old clock.old (Some incoming)) }
+    ensures { match_state (B.queues book.new) tape.new session.new result ≡ apply (trades incoming resting) (match_state (B.queues book.old) tape.old session.old (Some incoming)) }
 {
-    let lots = incoming.leaves.min(resting.shown);
+    let lots = incoming.open_lots.min(resting.shown);
     tape.write(Line::Traded {
         incoming: incoming.number,
         resting: resting.number,
         price: resting.price,
         lots,
     });
-    rest_after(book, clock, incoming.side.other(), resting, lots);
-    clock.last = Some(resting.price);
-    left_of(incoming, lots)
+    after_trade(book, session, incoming.side.opposite(), resting, lots);
+    session.last_price = Some(resting.price);
+    incoming_left(incoming, lots)
 }
 
 // What becomes of an order that trades no more: it stands, or is cancelled.
-pub fn leave<B: Book>(book: &mut B, tape: &mut Tape, order: Order)
-    ensures { (c : Numbers) → floor (B.queues book.new) tape.new c None ≡ happen (leftover order (B.queues book.old)) (floor (B.queues book.old) tape.old c (Some order)) }
+pub fn rest_or_cancel<B: Book>(book: &mut B, tape: &mut Tape, order: Order)
+    ensures { (c : SessionValue) → match_state (B.queues book.new) tape.new c None ≡ apply (leftover order (B.queues book.old)) (match_state (B.queues book.old) tape.old c (Some order)) }
 {
-    if order.validity.is_fleeting() {
+    if order.validity.is_immediate() {
         tape.write(cancelled(order, Cause::Leftover));
         return;
     }
     if book.put(Record::Standing(order)).is_err() {
-        tape.write(cancelled(order, Cause::NoPlace));
+        tape.write(cancelled(order, Cause::NotPut));
     }
 }

@@ -14,7 +14,7 @@ showing disclosed lots = cond (disclosed == 0) lots (min disclosed lots)
 
 -- an order under a turn, with other open and shown lots
 abbrev pub with_lots : ℕ → ℕ → ℕ → Order → OrderRow
-with_lots turn leaves shown o = record {
+with_lots turn open_lots shown o = record {
   number = o.number;
   turn = turn;
   firm = o.firm;
@@ -22,7 +22,7 @@ with_lots turn leaves shown o = record {
   side = o.side;
   price = o.price;
   quantity = o.quantity;
-  leaves = leaves;
+  open_lots = open_lots;
   shown = shown;
   disclosed = o.disclosed;
   validity = o.validity;
@@ -31,17 +31,17 @@ with_lots turn leaves shown o = record {
 }
 
 -- lots taken off those shown
-abbrev pub lowered : ℕ → Order → Order
-lowered lots o = order_of (with_lots o.turn (o.leaves - lots) (o.shown - lots) o)
+abbrev pub order_reduced : ℕ → Order → Order
+order_reduced lots o = order_of (with_lots o.turn (o.open_lots - lots) (o.shown - lots) o)
 
 -- lots taken off, the rest shown anew under a turn
-abbrev pub renewed : ℕ → ℕ → Order → Order
-renewed turn lots o = order_of (with_lots turn (o.leaves - lots) (showing o.disclosed (o.leaves - lots)) o)
+abbrev pub order_refilled : ℕ → ℕ → Order → Order
+order_refilled turn lots o = order_of (with_lots turn (o.open_lots - lots) (showing o.disclosed (o.open_lots - lots)) o)
 
 -- may an order of this side and limit trade at this price?
-abbrev pub within : Side → Price → Price → Bool
-within Buy limit price = nat_le (level price) (level limit)
-within Sell limit price = nat_le (level limit) (level price)
+abbrev pub within_limit : Side → Price → Price → Bool
+within_limit Buy limit price = nat_le (level price) (level limit)
+within_limit Sell limit price = nat_le (level limit) (level price)
 
 -- both have one investor, who is not 0
 abbrev pub same_investor : Order → Order → Bool

@@ -10,5 +10,5 @@ abbrev pub same_price : Price → Price → Bool
 same_price p q = level p == level q
 
 -- an order may carry 0,01 to 999999,99
-abbrev pub listed : Price → Bool
-listed p = nat_le 1 p.hundredths && nat_le p.hundredths 99999999
+abbrev pub in_price_range : Price → Bool
+in_price_range p = nat_le 1 p.hundredths && nat_le p.hundredths 99999999

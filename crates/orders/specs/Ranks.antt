@@ -9,8 +9,8 @@ use Rattle.orders.specs.declared.row.StopRow.{StopRow}
 use Rattle.orders.specs.Prices.{level}
 
 -- lower key, then lower turn, then lower number
-abbrev pub before : Rank → Rank → Bool
-before a b = cond (a.key == b.key) (cond (a.turn == b.turn) (nat_lt a.number b.number) (nat_lt a.turn b.turn)) (nat_lt a.key b.key)
+abbrev pub ranks_ahead : Rank → Rank → Bool
+ranks_ahead a b = cond (a.key == b.key) (cond (a.turn == b.turn) (nat_lt a.number b.number) (nat_lt a.turn b.turn)) (nat_lt a.key b.key)
 
 abbrev pub same_rank : Rank → Rank → Bool
 same_rank a b = a.key == b.key && (a.turn == b.turn && a.number == b.number)

@@ -5,7 +5,7 @@ use Rattle.orders.specs.declared.order.Order.{Order}
 use Rattle.orders.specs.declared.order.Stop.{Stop}
 use Rattle.orders.specs.declared.row.OrderRow.{OrderRow}
 use Rattle.orders.specs.declared.row.StopRow.{StopRow}
-use Rattle.orders.specs.Bounds.{keeps, Fits, keeps_tells}
+use Rattle.orders.specs.Bounds.{keeps_bounds, InBounds, keeps_bounds_facts}
 
 abbrev pub row_of : Order → OrderRow
 row_of o = record {
@@ -16,7 +16,7 @@ row_of o = record {
   side = o.side;
   price = o.price;
   quantity = o.quantity;
-  leaves = o.leaves;
+  open_lots = o.open_lots;
   shown = o.shown;
   disclosed = o.disclosed;
   validity = o.validity;
@@ -25,8 +25,8 @@ row_of o = record {
 }
 
 -- outside the bounds: quantity, open and shown 1, disclosed 0, the rest as it lies
-abbrev pub cut : Bool → OrderRow → OrderRow
-cut b r = record {
+abbrev pub sound_row : Bool → OrderRow → OrderRow
+sound_row b r = record {
   number = r.number;
   turn = r.turn;
   firm = r.firm;
@@ -34,7 +34,7 @@ cut b r = record {
   side = r.side;
   price = r.price;
   quantity = cond b r.quantity 1;
-  leaves = cond b r.leaves 1;
+  open_lots = cond b r.open_lots 1;
   shown = cond b r.shown 1;
   disclosed = cond b r.disclosed 0;
   validity = r.validity;
@@ -42,12 +42,12 @@ cut b r = record {
   tag = r.tag;
 }
 
-cut_either : (r : OrderRow) (b : Bool) → keeps r ≡ b → Fits (cut b r)
-cut_either r true e = keeps_tells r e
-cut_either r false e = record { some = omega arith; within = omega arith; left = omega arith; few = omega arith; whole = λ h. refl; part = λ h. omega arith; hidden = λ h. omega arith }
+sound_row_either : (r : OrderRow) (b : Bool) → keeps_bounds r ≡ b → InBounds (sound_row b r)
+sound_row_either r true e = keeps_bounds_facts r e
+sound_row_either r false e = record { some = omega arith; within = omega arith; open_within = omega arith; few = omega arith; whole = λ h. refl; part = λ h. omega arith; hidden = λ h. omega arith }
 
-pub cut_fits : (r : OrderRow) → Fits (cut (keeps r) r)
-cut_fits r = cut_either r (keeps r) refl
+pub sound_row_in_bounds : (r : OrderRow) → InBounds (sound_row (keeps_bounds r) r)
+sound_row_in_bounds r = sound_row_either r (keeps_bounds r) refl
 
 -- the order of a row: each number by itself, so that those that always stay are seen to stay
 abbrev pub order_of : OrderRow → Order
@@ -58,20 +58,20 @@ order_of r = record {
   client = r.client;
   side = r.side;
   price = r.price;
-  quantity = cond (keeps r) r.quantity 1;
-  leaves = cond (keeps r) r.leaves 1;
-  shown = cond (keeps r) r.shown 1;
-  disclosed = cond (keeps r) r.disclosed 0;
+  quantity = cond (keeps_bounds r) r.quantity 1;
+  open_lots = cond (keeps_bounds r) r.open_lots 1;
+  shown = cond (keeps_bounds r) r.shown 1;
+  disclosed = cond (keeps_bounds r) r.disclosed 0;
   validity = r.validity;
   investor = r.investor;
   tag = r.tag;
-  some = (cut_fits r).some;
-  within = (cut_fits r).within;
-  left = (cut_fits r).left;
-  few = (cut_fits r).few;
-  whole = (cut_fits r).whole;
-  part = (cut_fits r).part;
-  hidden = (cut_fits r).hidden;
+  some = (sound_row_in_bounds r).some;
+  within = (sound_row_in_bounds r).within;
+  open_within = (sound_row_in_bounds r).open_within;
+  few = (sound_row_in_bounds r).few;
+  whole = (sound_row_in_bounds r).whole;
+  part = (sound_row_in_bounds r).part;
+  hidden = (sound_row_in_bounds r).hidden;
 }
 
 abbrev pub stop_row_of : Stop → StopRow

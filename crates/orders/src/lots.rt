@@ -1,7 +1,7 @@
 // Lots shown, lots taken off, and what an order may trade with.
 ghost use Rattle.std.specs.Prelude.{◌≡◌};
 ghost use Rattle.orders.specs.Rows.{order_of};
-ghost use Rattle.orders.specs.Lots.{showing, with_lots, lowered, renewed, within, same_investor};
+ghost use Rattle.orders.specs.Lots.{showing, with_lots, order_reduced, order_refilled, within_limit, same_investor};
 
 use crate::order::Order;
 use crate::price::Price;
@@ -20,8 +20,8 @@ pub fn showing(disclosed: u32, lots: u32) -> u32
 }
 
 // Whether an order of a side and limit may trade at a price.
-pub fn within(side: Side, limit: Price, price: Price) -> bool
-    ensures { result ≡ within side limit price }
+pub fn within_limit(side: Side, limit: Price, price: Price) -> bool
+    ensures { result ≡ within_limit side limit price }
 {
     match side {
         Side::Buy => price <= limit,
@@ -31,40 +31,40 @@ pub fn within(side: Side, limit: Price, price: Price) -> bool
 
 impl Order {
     // The order under a turn, with other open and shown lots.
-    fn with_lots(self, turn: u32, leaves: u32, shown: u32) -> Order
-        ensures { result ≡ order_of (with_lots turn leaves shown self) }
+    fn with_lots(self, turn: u32, open_lots: u32, shown: u32) -> Order
+        ensures { result ≡ order_of (with_lots turn open_lots shown self) }
     {
         Order::from(OrderRow {
             turn,
-            leaves,
+            open_lots,
             shown,
             ..OrderRow::from(self)
         })
     }
 
     // Lots taken off those shown.
-    pub fn lowered(self, lots: u32) -> Order
-        ensures { result ≡ lowered lots self }
+    pub fn reduced(self, lots: u32) -> Order
+        ensures { result ≡ order_reduced lots self }
     {
-        let leaves = self.leaves.saturating_sub(lots);
+        let open_lots = self.open_lots.saturating_sub(lots);
         let shown = self.shown.saturating_sub(lots);
-        self.with_lots(self.turn, leaves, shown)
+        self.with_lots(self.turn, open_lots, shown)
     }
 
     // Lots taken off, and the rest shown anew under a turn.
-    pub fn renewed(self, turn: u32, lots: u32) -> Order
-        ensures { result ≡ renewed turn lots self }
+    pub fn refilled(self, turn: u32, lots: u32) -> Order
+        ensures { result ≡ order_refilled turn lots self }
     {
-        let leaves = self.leaves.saturating_sub(lots);
-        let shown = showing(self.disclosed, leaves);
-        self.with_lots(turn, leaves, shown)
+        let open_lots = self.open_lots.saturating_sub(lots);
+        let shown = showing(self.disclosed, open_lots);
+        self.with_lots(turn, open_lots, shown)
     }
 
     // Whether the order may trade at a price.
-    pub fn takes(self, price: Price) -> bool
-        ensures { result ≡ within self.side self.price price }
+    pub fn may_trade_at(self, price: Price) -> bool
+        ensures { result ≡ within_limit self.side self.price price }
     {
-        within(self.side, self.price, price)
+        within_limit(self.side, self.price, price)
     }
 
     // Whether both orders have one investor.

@@ -4,7 +4,7 @@ ghost use Rattle.std.specs.Prelude.{◌≡◌, ◌+◌, ◌*◌, ◌≤◌};
 use crate::price::Price;
 use crate::side::{Side, Validity};
 
-// `leaves` are the open lots: neither traded nor cancelled.
+// `open_lots` are the open lots: neither traded nor cancelled.
 // Investor 0 and disclosed 0 are none, as in the published cells and the definitions: an Option would need a fact that bars Some(0).
 #[derive(Clone, Copy)]
 pub struct Order {
@@ -15,19 +15,19 @@ pub struct Order {
     pub side: Side,
     pub price: Price,
     pub quantity: u32,
-    pub leaves: u32,
+    pub open_lots: u32,
     pub shown: u32,
     pub disclosed: u32,
     pub validity: Validity,
     pub investor: u64,
     pub tag: u8,
     ghost some: { 1 ≤ shown },
-    ghost within: { shown ≤ leaves },
-    ghost left: { leaves ≤ quantity },
+    ghost within: { shown ≤ open_lots },
+    ghost open_within: { open_lots ≤ quantity },
     ghost few: { quantity ≤ 1000000 },
-    ghost whole: { (disclosed ≡ 0 → shown ≡ leaves) },
+    ghost whole: { (disclosed ≡ 0 → shown ≡ open_lots) },
     ghost part: { (1 ≤ disclosed → shown ≤ disclosed) },
-    ghost hidden: { (1 ≤ disclosed → leaves ≤ shown + 15 * disclosed) },
+    ghost hidden: { (1 ≤ disclosed → open_lots ≤ shown + 15 * disclosed) },
 }
 
 // An order not yet in force, with the price that brings it into force.

@@ -1,6 +1,6 @@
 // A price, compared by its level and by nothing else.
 ghost use Rattle.std.specs.Prelude.{◌≡◌};
-ghost use Rattle.orders.specs.Prices.{level, listed};
+ghost use Rattle.orders.specs.Prices.{level, in_price_range};
 
 // Hundredths of the currency; an absent price is an `Option`, never a number.
 #[derive(Clone, Copy, Debug, PartialEq, Eq, PartialOrd, Ord)]
@@ -21,8 +21,8 @@ impl Price {
     }
 
     // Whether an order may carry the price.
-    pub fn is_listed(self) -> bool
-        ensures { result ≡ listed self }
+    pub fn is_in_range(self) -> bool
+        ensures { result ≡ in_price_range self }
     {
         (LOWEST..=HIGHEST).contains(&self.hundredths)
     }

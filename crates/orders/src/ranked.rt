@@ -1,8 +1,8 @@
 // What has a number and an owner, and what has a rank besides.
 ghost use Rattle.std.specs.Prelude.{◌≡◌, ℕ, true, false};
-ghost use Rattle.orders.specs.declared.rank.Rank.{Rank as Place};
-ghost use Rattle.orders.specs.Ranks.{before, order_key, order_rank, stop_rank};
-ghost use Rattle.orders.specs.RanksLemmas.{before_apart, before_chain, before_settled};
+ghost use Rattle.orders.specs.declared.rank.Rank.{Rank as RankValue};
+ghost use Rattle.orders.specs.Ranks.{ranks_ahead, order_key, order_rank, stop_rank};
+ghost use Rattle.orders.specs.RanksLemmas.{ranks_ahead_irreflexive, ranks_ahead_transitive, ranks_ahead_connected};
 
 use crate::price::Price;
 use crate::rank::Rank;
@@ -11,14 +11,14 @@ use crate::side::Side;
 
 // A firm knows what it owns by a client number.
 pub trait Numbered {
-    ghost num: { Self → ℕ };
+    ghost number: { Self → ℕ };
 
     ghost firm: { Self → ℕ };
 
     ghost client: { Self → ℕ };
 
     fn number(&self) -> u32
-        ensures { result ≡ num self.now };
+        ensures { result ≡ number self.now };
 
     fn firm(&self) -> u16
         ensures { result ≡ firm self.now };
@@ -29,16 +29,16 @@ pub trait Numbered {
 
 // Nothing ranks ahead of itself, ranking ahead carries along a chain, and of two different ranks one is ahead.
 pub trait Ranked: Numbered {
-    ghost place: { Self → Place };
+    ghost rank: { Self → RankValue };
 
     fn rank(&self) -> Rank
-        ensures { result ≡ place self.now };
+        ensures { result ≡ rank self.now };
 
-    ghost apart: { (a : Self) → before (place a) (place a) ≡ false };
+    ghost irreflexive: { (a : Self) → ranks_ahead (rank a) (rank a) ≡ false };
 
-    ghost chain: { (a b c : Self) → before (place a) (place b) ≡ true → before (place b) (place c) ≡ true → before (place a) (place c) ≡ true };
+    ghost transitive: { (a b c : Self) → ranks_ahead (rank a) (rank b) ≡ true → ranks_ahead (rank b) (rank c) ≡ true → ranks_ahead (rank a) (rank c) ≡ true };
 
-    ghost settled: { (a b : Self) → before (place a) (place b) ≡ false → before (place b) (place a) ≡ false → place a ≡ place b };
+    ghost connected: { (a b : Self) → ranks_ahead (rank a) (rank b) ≡ false → ranks_ahead (rank b) (rank a) ≡ false → rank a ≡ rank b };
 }
 
 // The key of an order by its price; that of a stop is by its trigger, as if it went the other way.
@@ -52,7 +52,7 @@ fn key(side: Side, price: Price) -> u32
 }
 
 impl Numbered for OrderRow {
-    ghost num = { λ r. r.number };
+    ghost number = { λ r. r.number };
 
     ghost firm = { λ r. r.firm };
 
@@ -72,13 +72,13 @@ impl Numbered for OrderRow {
 }
 
 impl Ranked for OrderRow {
-    ghost place = { order_rank };
+    ghost rank = { order_rank };
 
-    ghost apart = { λ a. before_apart (order_rank a) };
+    ghost irreflexive = { λ a. ranks_ahead_irreflexive (order_rank a) };
 
-    ghost chain = { λ a b c. before_chain (order_rank a) (order_rank b) (order_rank c) };
+    ghost transitive = { λ a b c. ranks_ahead_transitive (order_rank a) (order_rank b) (order_rank c) };
 
-    ghost settled = { λ a b. before_settled (order_rank a) (order_rank b) };
+    ghost connected = { λ a b. ranks_ahead_connected (order_rank a) (order_rank b) };
 
     fn rank(&self) -> Rank {
         Rank {
@@ -90,7 +90,7 @@ impl Ranked for OrderRow {
 }
 
 impl Numbered for StopRow {
-    ghost num = { λ r. r.order.number };
+    ghost number = { λ r. r.order.number };
 
     ghost firm = { λ r. r.order.firm };
 
@@ -110,17 +110,17 @@ impl Numbered for StopRow {
 }
 
 impl Ranked for StopRow {
-    ghost place = { stop_rank };
+    ghost rank = { stop_rank };
 
-    ghost apart = { λ a. before_apart (stop_rank a) };
+    ghost irreflexive = { λ a. ranks_ahead_irreflexive (stop_rank a) };
 
-    ghost chain = { λ a b c. before_chain (stop_rank a) (stop_rank b) (stop_rank c) };
+    ghost transitive = { λ a b c. ranks_ahead_transitive (stop_rank a) (stop_rank b) (stop_rank c) };
 
-    ghost settled = { λ a b. before_settled (stop_rank a) (stop_rank b) };
+    ghost connected = { λ a b. ranks_ahead_connected (stop_rank a) (stop_rank b) };
 
     fn rank(&self) -> Rank {
         Rank {
-            key: key(self.order.side.other(), self.trigger),
+            key: key(self.order.side.opposite(), self.trigger),
             turn: self.order.turn,
             number: self.order.number,
         }

@@ -1,7 +1,7 @@
 // The plain rows that strips and slots hold.
 ghost use Rattle.std.specs.Prelude.{◌≡◌};
-ghost use Rattle.orders.specs.Bounds.{fits, keeps, Fits};
-ghost use Rattle.orders.specs.Rows.{row_of, cut, order_of, stop_row_of, stop_of};
+ghost use Rattle.orders.specs.Bounds.{in_bounds, keeps_bounds, InBounds};
+ghost use Rattle.orders.specs.Rows.{row_of, sound_row, order_of, stop_row_of, stop_of};
 
 use crate::order::{Order, Stop};
 use crate::price::Price;
@@ -17,7 +17,7 @@ pub struct OrderRow {
     pub side: Side,
     pub price: Price,
     pub quantity: u32,
-    pub leaves: u32,
+    pub open_lots: u32,
     pub shown: u32,
     pub disclosed: u32,
     pub validity: Validity,
@@ -28,35 +28,35 @@ pub struct OrderRow {
 impl OrderRow {
     // Whether the row keeps the bounds of an order.
     #[inline(always)]
-    pub fn fits(self) -> bool
-        ensures { result ≡ fits self }
+    pub fn in_bounds(self) -> bool
+        ensures { result ≡ in_bounds self }
     {
         if self.shown < 1
-            || self.leaves < self.shown
-            || self.quantity < self.leaves
+            || self.open_lots < self.shown
+            || self.quantity < self.open_lots
             || 1_000_000 < self.quantity
         {
             return false;
         }
         if self.disclosed == 0 {
-            return self.shown == self.leaves;
+            return self.shown == self.open_lots;
         }
         self.shown <= self.disclosed
-            && u64::from(self.leaves) <= u64::from(self.shown) + 15 * u64::from(self.disclosed)
+            && u64::from(self.open_lots) <= u64::from(self.shown) + 15 * u64::from(self.disclosed)
     }
 
     // The row as it lies within the bounds; outside them one lot, all of it shown, the rest as it lies.
     #[inline(always)]
     fn sound(self) -> OrderRow
-        ensures value { result ≡ cut (keeps self) self }
-        ensures fits { Fits result }
+        ensures value { result ≡ sound_row (keeps_bounds self) self }
+        ensures in_bounds { InBounds result }
     {
-        if self.fits() {
+        if self.in_bounds() {
             return self;
         }
         OrderRow {
             quantity: 1,
-            leaves: 1,
+            open_lots: 1,
             shown: 1,
             disclosed: 0,
             ..self
@@ -77,7 +77,7 @@ impl From<Order> for OrderRow {
             side: o.side,
             price: o.price,
             quantity: o.quantity,
-            leaves: o.leaves,
+            open_lots: o.open_lots,
             shown: o.shown,
             disclosed: o.disclosed,
             validity: o.validity,
@@ -102,7 +102,7 @@ impl From<OrderRow> for Order {
             side: row.side,
             price: row.price,
             quantity: row.quantity,
-            leaves: row.leaves,
+            open_lots: row.open_lots,
             shown: row.shown,
             disclosed: row.disclosed,
             validity: row.validity,

@@ -1,7 +1,7 @@
 // Which way an order goes, and how long it holds.
 ghost use Rattle.std.specs.Prelude.{◌≡◌};
 ghost use Rattle.std.specs.Option.{ok_or};
-ghost use Rattle.orders.specs.Sides.{other, fleeting, daily, side_of, validity_of, unknown};
+ghost use Rattle.orders.specs.Sides.{opposite, is_immediate, is_day, side_of, validity_of, unknown_code};
 
 #[derive(Clone, Copy, Debug, PartialEq, Eq)]
 pub enum Side {
@@ -24,7 +24,7 @@ pub struct UnknownCode(pub u64);
 impl TryFrom<u64> for Side {
     type Error = UnknownCode;
 
-    ghost try_from_gives = { λ code told. told ≡ ok_or (side_of code) (unknown code) };
+    ghost try_from_gives = { λ code answer. answer ≡ ok_or (side_of code) (unknown_code code) };
 
     fn try_from(code: u64) -> Result<Side, UnknownCode> {
         match code {
@@ -38,7 +38,7 @@ impl TryFrom<u64> for Side {
 impl TryFrom<u64> for Validity {
     type Error = UnknownCode;
 
-    ghost try_from_gives = { λ code told. told ≡ ok_or (validity_of code) (unknown code) };
+    ghost try_from_gives = { λ code answer. answer ≡ ok_or (validity_of code) (unknown_code code) };
 
     fn try_from(code: u64) -> Result<Validity, UnknownCode> {
         match code {
@@ -52,8 +52,8 @@ impl TryFrom<u64> for Validity {
 }
 
 impl Side {
-    pub fn other(self) -> Side
-        ensures { result ≡ other self }
+    pub fn opposite(self) -> Side
+        ensures { result ≡ opposite self }
     {
         match self {
             Side::Buy => Side::Sell,
@@ -64,8 +64,8 @@ impl Side {
 
 impl Validity {
     // Whether what does not trade at once is cancelled.
-    pub fn is_fleeting(self) -> bool
-        ensures { result ≡ fleeting self }
+    pub fn is_immediate(self) -> bool
+        ensures { result ≡ is_immediate self }
     {
         match self {
             Validity::Day | Validity::Gtc => false,
@@ -74,8 +74,8 @@ impl Validity {
     }
 
     // Whether closing removes the order.
-    pub fn is_daily(self) -> bool
-        ensures { result ≡ daily self }
+    pub fn is_day(self) -> bool
+        ensures { result ≡ is_day self }
     {
         match self {
             Validity::Day => true,

@@ -2,15 +2,15 @@
 #![tactic(auto)]
 
 use books::book::Book;
+use books::orders_of::orders_in;
 use books::queue::Queue;
-use books::walk::orders_in;
 use cards::card::FrontCard;
+use display::text::{LineText, StandingText};
 use forms::form::Form;
 use laws::calls::run;
 use orders::price::Price;
 use orders::row::{OrderRow, StopRow};
 use orders::side::{Side, Validity};
-use prints::text::{LineText, StandingText};
 use slots::book::slot_book;
 use std::alloc::Global;
 use std::fmt::Write;
@@ -19,11 +19,11 @@ use tapes::tape::Tape;
 
 mod steps;
 
-use books::lane::Lane;
+use books::queue_store::QueueStore;
 use steps::{first_half, second_half};
 
 // Runs the steps from day 1 and stamp 1, and tells the tape and the orders left standing.
-fn told<B: Book>(heap: Global, book: &mut B, forms: &[Form]) -> anyhow::Result<String> {
+fn answer<B: Book>(heap: Global, book: &mut B, forms: &[Form]) -> anyhow::Result<String> {
     let mut tape = Tape::new(heap, 3000)?;
     let day = run(book, &mut tape, 1, 1, forms);
     day.end();
@@ -55,7 +55,7 @@ fn spare() -> OrderRow {
         side: Side::Sell,
         price: Price { hundredths: 1 },
         quantity: 9,
-        leaves: 9,
+        open_lots: 9,
         shown: 9,
         disclosed: 0,
         validity: Validity::Day,
@@ -83,19 +83,19 @@ fn main(rt: HostRuntime) -> anyhow::Result<()> {
     let mut offers = [spare(); 32];
     let mut buys = [stop; 32];
     let mut sells = [stop; 32];
-    let first = told(
+    let first = answer(
         heap,
         &mut strip_book(&mut bids, &mut offers, &mut buys, &mut sells),
         forms,
     )?;
     print!(rt; "{first}")?;
-    let text = told(heap, &mut slot_book(), forms)?;
+    let text = answer(heap, &mut slot_book(), forms)?;
     println!(rt; "slots {}", verdict(&first, &text))?;
     let mut card = FrontCard::over(strip_book(&mut bids, &mut offers, &mut buys, &mut sells));
-    let text = told(heap, &mut card, forms)?;
+    let text = answer(heap, &mut card, forms)?;
     println!(rt; "card above strips {}", verdict(&first, &text))?;
     let mut card = FrontCard::over(slot_book());
-    let text = told(heap, &mut card, forms)?;
+    let text = answer(heap, &mut card, forms)?;
     println!(rt; "card above slots {}", verdict(&first, &text))?;
     Ok(())
 }

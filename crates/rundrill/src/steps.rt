@@ -41,7 +41,7 @@ const BLANK: EntryForm = EntryForm {
     firm: None,
     client: None,
     side: None,
-    kind: None,
+    order_type: None,
     validity: None,
     price: None,
     trigger: None,
@@ -66,7 +66,7 @@ fn entry(firm: u64, client: u64, side: Side, quantity: u64, validity: Validity) 
 
 fn with(firm: u64, client: u64, side: Side, quantity: u64, hundredths: u32, terms: Terms) -> Form {
     Form::Entry(EntryForm {
-        kind: Some(b'2'),
+        order_type: Some(b'2'),
         price: Some(Price { hundredths }),
         disclosed: Some(terms.disclosed),
         minimum: Some(terms.minimum),
@@ -83,7 +83,7 @@ fn plain(firm: u64, client: u64, side: Side, quantity: u64, hundredths: u32) -> 
 // A market order, whose leftover is a limit order.
 fn market(firm: u64, client: u64, side: Side, quantity: u64) -> Form {
     Form::Entry(EntryForm {
-        kind: Some(b'K'),
+        order_type: Some(b'K'),
         ..entry(firm, client, side, quantity, Validity::Day)
     })
 }
@@ -91,7 +91,7 @@ fn market(firm: u64, client: u64, side: Side, quantity: u64) -> Form {
 // A stop that lasts until it is cancelled.
 fn stop(firm: u64, client: u64, side: Side, quantity: u64, trigger: u32, hundredths: u32) -> Form {
     Form::Entry(EntryForm {
-        kind: Some(b'4'),
+        order_type: Some(b'4'),
         price: Some(Price { hundredths }),
         trigger: Some(Price {
             hundredths: trigger,

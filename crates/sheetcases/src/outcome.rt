@@ -70,7 +70,7 @@ fn push_entry(values: &mut Vec<Option<u64>>, e: EntryForm) -> Result<(), AllocEr
         e.firm,
         e.client,
         e.side,
-        e.kind.map(u64::from),
+        e.order_type.map(u64::from),
         e.validity,
         hundredths(e.price),
         hundredths(e.trigger),

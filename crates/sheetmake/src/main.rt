@@ -1,10 +1,10 @@
 // Reads a text from standard input, a line for each row, and writes the sheet of these rows.
 #![tactic(auto)]
 
-use making::refused::{Refused, Why};
-use making::sheet::make_sheet;
 use std::io::{Read, Write};
 use std::process::ExitCode;
+use text_sheets::refused::{Refused, Why};
+use text_sheets::sheet::make_sheet;
 
 fn main(rt: HostRuntime) -> anyhow::Result<ExitCode> {
     run(&rt)

@@ -1,7 +1,7 @@
-mod Apart
-mod Breaking
-pub mod Digits
-mod Fronts
-mod Inside
-mod Places
-mod Walks
+mod RowApart
+mod PairRuleHolds
+pub mod DigitValues
+mod FrontDigits
+mod PairsInside
+mod FirstWrongByte
+mod OnePairMore

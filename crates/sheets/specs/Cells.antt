@@ -13,8 +13,8 @@ abbrev pub digits : ℕ → List ℕ → ℕ
 digits most bs = prefix_len is_digit (take most bs)
 
 -- the number that they write
-abbrev pub written : ℕ → List ℕ → ℕ
-written most bs = digits_value 10 (take (digits most bs) bs)
+abbrev pub digits_number : ℕ → List ℕ → ℕ
+digits_number most bs = digits_value 10 (take (digits most bs) bs)
 
 -- length 0
 abbrev pub is_blank : List ℕ → Bool
@@ -23,18 +23,18 @@ is_blank bs = length bs == 0
 -- a number cell: 1 to 12 digits
 abbrev pub read_number : List ℕ → Result (Option ℕ) ℕ
 read_number bs = cond (is_blank bs) (Ok None)
-    (cond (digits 12 bs == length bs) (Ok (Some (written 12 bs))) (Err (digits 12 bs + 1)))
+    (cond (digits 12 bs == length bs) (Ok (Some (digits_number 12 bs))) (Err (digits 12 bs + 1)))
 
 -- behind the comma of a price, before which some digits stand: two digits and no more
 abbrev pub read_cents : ℕ → ℕ → List ℕ → Result (Option Price) ℕ
 read_cents before units bs = cond (digits 2 bs == 2 && length bs == 2)
-    (Ok (Some (record { hundredths = units * 100 + written 2 bs }))) (Err (before + 1 + digits 2 bs + 1))
+    (Ok (Some (record { hundredths = units * 100 + digits_number 2 bs }))) (Err (before + 1 + digits 2 bs + 1))
 
 -- a price cell: 1 to 6 digits, a comma and two digits
 abbrev pub read_price : List ℕ → Result (Option Price) ℕ
 read_price bs = cond (is_blank bs) (Ok None)
     (cond (nat_lt 0 (digits 6 bs) && slice_index bs (digits 6 bs) == 44)
-    (read_cents (digits 6 bs) (written 6 bs) (drop (digits 6 bs + 1) bs)) (Err (digits 6 bs + 1)))
+    (read_cents (digits 6 bs) (digits_number 6 bs) (drop (digits 6 bs + 1) bs)) (Err (digits 6 bs + 1)))
 
 -- the type cell: any one byte
 abbrev pub read_type : List ℕ → Result (Option ℕ) ℕ

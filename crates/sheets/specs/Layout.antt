@@ -37,16 +37,16 @@ part_at d bs k = part bs (offset_at d bs k) (length_at d bs k)
 abbrev pub ends_at : Directory → List ℕ → ℕ → ℕ
 ends_at d bs k = offset_at d bs k + length_at d bs k
 
--- the end of pair k, unless it starts before `floor` or ends outside
-abbrev pub placed : Directory → List ℕ → ℕ → ℕ → Option ℕ
-placed d bs k floor = cond (nat_lt (offset_at d bs k) floor || nat_lt (length bs) (ends_at d bs k)) None (Some (ends_at d bs k))
+-- the end of pair k, unless it starts before `least` or ends outside
+abbrev pub pair_end : Directory → List ℕ → ℕ → ℕ → Option ℕ
+pair_end d bs k least = cond (nat_lt (offset_at d bs k) least || nat_lt (length bs) (ends_at d bs k)) None (Some (ends_at d bs k))
 
 -- the first of n pairs from k on, counted from 1, that is misplaced: one starts at or after the end of the one before
-abbrev pub walk : Directory → List ℕ → ℕ → ℕ → ℕ → Option ℕ
-walk d bs zero k floor = None
-walk d bs (suc n) k floor =
-    elim (placed d bs k floor) [ Some end ↦ walk d bs n (k + 1) end | None ↦ Some (k + 1) ]
+abbrev pub first_misplaced_from : Directory → List ℕ → ℕ → ℕ → ℕ → Option ℕ
+first_misplaced_from d bs zero k least = None
+first_misplaced_from d bs (suc n) k least =
+    elim (pair_end d bs k least) [ Some end ↦ first_misplaced_from d bs n (k + 1) end | None ↦ Some (k + 1) ]
 
 -- the first one starts at or after the end of the directory
 abbrev pub first_misplaced : Directory → List ℕ → ℕ → Option ℕ
-first_misplaced d bs count = walk d bs count 0 (directory_end d count)
+first_misplaced d bs count = first_misplaced_from d bs count 0 (directory_end d count)

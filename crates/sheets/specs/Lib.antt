@@ -1,10 +1,10 @@
-pub mod Alone
+pub mod OwnBytes
 pub mod Cells
-pub mod Fits
+pub mod FormBounds
 pub mod Layout
 pub mod Letters
-pub mod Pairs
-pub mod Places
+pub mod PairRule
+pub mod GoodCells
 pub mod Replies
 pub mod Rows
 pub mod Sheets

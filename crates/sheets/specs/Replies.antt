@@ -1,15 +1,15 @@
 -- What is answered, and the list that it is posted to.
 use Rattle.std.specs.Prelude.{ℕ, ◌-◌, cond, List, [], ◌∷◌, ◌++◌, length, Ok, Err, vec_items, Result, nat_lt}
-use Rattle.forms.specs.Refusals.{number, cell, place}
+use Rattle.forms.specs.Refusals.{refusal_number, refusal_cell, refusal_place}
 use Rattle.forms.specs.declared.refusal.Refusal.{Refusal}
-use Rattle.forms.specs.declared.refusal.Refusal.TheVariants.{ShortSheet, RowMisplaced, UnknownRow, WrongCells, CellMisplaced, Unreadable, WrongBlank, OutOfRange, Barred, NoReplies, WrongDay, TapeFull, NoStamps, UnknownOrder, ClientHeld, ChangeOfStop, QuantityTraded, DisclosedBarred, DayNotLater}
+use Rattle.forms.specs.declared.refusal.Refusal.TheVariants.{ShortSheet, RowMisplaced, UnknownRow, WrongCells, CellMisplaced, Unreadable, WrongBlank, OutOfRange, Barred, NoReplies, WrongDay, TapeFull, NoStamps, UnknownOrder, ClientNumberTaken, ChangeOfStop, QuantityTraded, DisclosedBarred, DayNotLater}
 use Rattle.sheets.specs.declared.reply.Reply.{Reply}
 use Rattle.sheets.specs.declared.replies.Replies.{Replies}
 
 -- the reply to a row: 0 0 0 where it was accepted
 abbrev pub reply_of : ℕ → Result (Unit {0}) Refusal → Reply
 reply_of row (Ok done) = record { row = row; number = 0; cell = 0; place = 0 }
-reply_of row (Err e) = record { row = row; number = number e; cell = cell e; place = place e }
+reply_of row (Err e) = record { row = row; number = refusal_number e; cell = refusal_cell e; place = refusal_place e }
 
 -- the row that a refusal of a sheet names, or 0
 abbrev pub row_named : Refusal → ℕ
@@ -27,7 +27,7 @@ row_named WrongDay = 0
 row_named TapeFull = 0
 row_named NoStamps = 0
 row_named UnknownOrder = 0
-row_named ClientHeld = 0
+row_named ClientNumberTaken = 0
 row_named ChangeOfStop = 0
 row_named QuantityTraded = 0
 row_named DisclosedBarred = 0
@@ -35,7 +35,7 @@ row_named DayNotLater = 0
 
 -- the answer to a refused sheet
 abbrev pub sheet_reply : Refusal → Reply
-sheet_reply e = record { row = row_named e; number = number e; cell = 0; place = 0 }
+sheet_reply e = record { row = row_named e; number = refusal_number e; cell = 0; place = 0 }
 
 -- the replies, the oldest first
 abbrev pub posted : Replies → List Reply

@@ -43,7 +43,7 @@ read_entry row =
     and_then (number_cell row 0) (λ firm.
     and_then (number_cell row 1) (λ client.
     and_then (number_cell row 2) (λ side.
-    and_then (type_cell row 3) (λ kind.
+    and_then (type_cell row 3) (λ order_type.
     and_then (number_cell row 4) (λ validity.
     and_then (price_cell row 5) (λ price.
     and_then (price_cell row 6) (λ trigger.
@@ -56,7 +56,7 @@ read_entry row =
       firm = firm;
       client = client;
       side = side;
-      kind = kind;
+      order_type = order_type;
       validity = validity;
       price = price;
       trigger = trigger;

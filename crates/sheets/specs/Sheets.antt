@@ -42,11 +42,11 @@ abbrev pub next_row : Sheet → Option (ℕ × List ℕ)
 next_row s = cond (nat_lt s.done s.count) (Some (s.done + 1, part_at Rows s.bytes.now s.done)) None
 
 -- what is handed out is that row, with a slip of its number
-abbrev pub Drew : Option (ℕ × List ℕ) → Option Drawn → Type 0
-Drew None None = Unit {0}
-Drew None (Some d) = ⊥
-Drew (Some row) None = ⊥
-Drew (Some row) (Some d) = (d.slip.row ≡ row.0) × (d.bytes.now ≡ row.1)
+abbrev pub HandsOut : Option (ℕ × List ℕ) → Option Drawn → Type 0
+HandsOut None None = Unit {0}
+HandsOut None (Some d) = ⊥
+HandsOut (Some row) None = ⊥
+HandsOut (Some row) (Some d) = (d.slip.row ≡ row.0) × (d.bytes.now ≡ row.1)
 
 -- a sheet that has handed out its next row, where there is one
 abbrev pub moved_on : Sheet → Sheet

@@ -17,14 +17,14 @@ const CENT_DIGITS: usize = 2;
 
 // How many digits stand at the front.
 fn digit_count(bytes: &[u8]) -> usize
-    ensures told { result ≡ prefix_len is_digit bytes.now }
+    ensures answer { result ≡ prefix_len is_digit bytes.now }
 {
     bytes.iter().take_while(|b| b.is_ascii_digit()).count()
 }
 
 // The digits that a cell begins with, `most` at the most.
 fn digits_of(cell: &[u8], most: usize) -> &[u8]
-    ensures told { result.now ≡ take (digits most cell.now) cell.now }
+    ensures answer { result.now ≡ take (digits most cell.now) cell.now }
     ensures counted { length result.now ≡ digits most cell.now }
     ensures few { length result.now ≤ most }
     ensures all { AllDigits 10 result.now }
@@ -37,7 +37,7 @@ fn digits_of(cell: &[u8], most: usize) -> &[u8]
 fn number_of(digits: &[u8]) -> u64
     requires few { length digits.now ≤ 12 }
     requires all { AllDigits 10 digits.now }
-    ensures told { result ≡ digits_value 10 digits.now }
+    ensures answer { result ≡ digits_value 10 digits.now }
 {
     let mut number = 0;
     for b in digits {
@@ -48,7 +48,7 @@ fn number_of(digits: &[u8]) -> u64
 
 // A number cell: 1 to 12 digits.
 pub fn read_number(cell: &[u8]) -> Result<Option<u64>, u8>
-    ensures told { result ≡ read_number cell.now }
+    ensures answer { result ≡ read_number cell.now }
 {
     if cell.is_empty() {
         return Ok(None);
@@ -63,7 +63,7 @@ pub fn read_number(cell: &[u8]) -> Result<Option<u64>, u8>
 
 // A price cell: 1 to 6 digits, a comma and two digits.
 pub fn read_price(cell: &[u8]) -> Result<Option<Price>, u8>
-    ensures told { result ≡ read_price cell.now }
+    ensures answer { result ≡ read_price cell.now }
 {
     if cell.is_empty() {
         return Ok(None);
@@ -84,11 +84,11 @@ pub fn read_price(cell: &[u8]) -> Result<Option<Price>, u8>
 
 // The type cell: any one byte.
 pub fn read_type(cell: &[u8]) -> Result<Option<u8>, u8>
-    ensures told { result ≡ read_type cell.now }
+    ensures answer { result ≡ read_type cell.now }
 {
     match cell {
         [] => Ok(None),
-        [kind] => Ok(Some(*kind)),
+        [byte] => Ok(Some(*byte)),
         _ => Err(2),
     }
 }

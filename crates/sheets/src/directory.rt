@@ -1,6 +1,6 @@
 // The two directories of a sheet: its own, of rows, and that of a row, of cells.
 ghost use Rattle.std.specs.Prelude.{◌≡◌, ◌+◌, ◌*◌, ◌≤◌, IfSome};
-ghost use Rattle.sheets.specs.Layout.{part_at, offset_at, length_at, ends_at, placed, directory_end, first_misplaced};
+ghost use Rattle.sheets.specs.Layout.{part_at, offset_at, length_at, ends_at, pair_end, directory_end, first_misplaced};
 
 use super::bytes::{byte_at, part_of, word_at};
 
@@ -53,13 +53,13 @@ impl Directory {
         )
     }
 
-    // The end of pair k, unless it starts before `floor` or ends outside.
-    fn end_if_placed(self, bytes: &[u8], k: u16, floor: usize) -> Option<usize>
-        ensures { result ≡ placed self bytes.now k floor }
+    // The end of pair k, unless it starts before `least` or ends outside.
+    fn end_if_placed(self, bytes: &[u8], k: u16, least: usize) -> Option<usize>
+        ensures { result ≡ pair_end self bytes.now k least }
     {
         let start = usize::from(self.offset(bytes, k));
         let end = start + usize::from(self.length(bytes, k));
-        if start < floor || bytes.len() < end {
+        if start < least || bytes.len() < end {
             None
         } else {
             Some(end)
@@ -68,14 +68,14 @@ impl Directory {
 
     // The first of `count` pairs, from 1, that is misplaced.
     pub(crate) fn first_misplaced(self, bytes: &[u8], count: u16) -> Option<u16>
-        ensures told { result ≡ first_misplaced self bytes.now count }
+        ensures answer { result ≡ first_misplaced self bytes.now count }
         ensures within { IfSome result (λ k. k ≤ count) }
     {
         // By k: the definitions and `part` name a pair by its number, and a `try_fold` that breaks off with an Err reads no plainer.
-        let mut floor = self.end(count);
+        let mut least = self.end(count);
         for k in 0..count {
-            match self.end_if_placed(bytes, k, floor) {
-                Some(end) => floor = end,
+            match self.end_if_placed(bytes, k, least) {
+                Some(end) => least = end,
                 None => return Some(k + 1),
             }
         }

@@ -20,7 +20,7 @@ pub enum Letter {
 impl TryFrom<u8> for Letter {
     type Error = Refusal;
 
-    ghost try_from_gives = { λ byte told. told ≡ ok_or (letter_of byte) UnknownRow };
+    ghost try_from_gives = { λ byte answer. answer ≡ ok_or (letter_of byte) UnknownRow };
 
     fn try_from(byte: u8) -> Result<Letter, Refusal> {
         match byte {
@@ -38,7 +38,7 @@ impl TryFrom<u8> for Letter {
 impl Letter {
     // How many cells a row of this letter has.
     pub fn cells(self) -> u8
-        ensures told { result ≡ cells_of self }
+        ensures answer { result ≡ cells_of self }
     {
         match self {
             Letter::Entry => 12,

@@ -17,7 +17,7 @@ pub struct Reply {
 impl Reply {
     // The reply to a row.
     pub fn to_row(row: u16, answer: Result<(), Refusal>) -> Reply
-        ensures told { result ≡ reply_of row answer }
+        ensures answer { result ≡ reply_of row answer }
     {
         match answer {
             Ok(()) => Reply {
@@ -37,7 +37,7 @@ impl Reply {
 
     // The answer to a sheet that is refused before any row; nobody posts it.
     pub fn to_sheet(refusal: Refusal) -> Reply
-        ensures told { result ≡ sheet_reply refusal }
+        ensures answer { result ≡ sheet_reply refusal }
     {
         let row = match refusal {
             Refusal::RowMisplaced { row } => row,

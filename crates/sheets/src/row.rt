@@ -4,9 +4,9 @@ ghost use Rattle.std.specs.Fn.{FnOnceReturnsAt};
 ghost use Rattle.sheets.specs.Rows.{in_cell, check_cells, read_cells, read_lettered, read_form};
 ghost use Rattle.sheets.specs.Layout.{part_at};
 ghost use Rattle.sheets.specs.declared.directory.Directory.TheVariants.{Cells};
-ghost use Rattle.sheets.specs.Alone.{RowAlone, CellAlone};
-ghost use Rattle.sheets.specs.Pairs.{PairRule};
-ghost use Rattle.sheets.specs.Places.{CellsTold};
+ghost use Rattle.sheets.specs.OwnBytes.{RowAlone, CellAlone};
+ghost use Rattle.sheets.specs.PairRule.{PairRule};
+ghost use Rattle.sheets.specs.GoodCells.{CellsReadOrTell};
 ghost use Rattle.sheets.specs.Letters.{letter_of};
 ghost use Rattle.sheets.specs.Rows.{read_entry, read_change, read_cancel, read_mass_cancel, read_opening};
 
@@ -20,7 +20,7 @@ use forms::refusal::Refusal;
 fn cell<T, F: FnOnce(&[u8]) -> Result<T, u8>>(row: &[u8], k: u8, read: F) -> Result<T, Refusal>
     requires small { k < 255 }
     requires callable { F.IsAlwaysCallable read }
-    ensures told { (said : _) × FnOnceReturnsAt F.FnOnce read (part_at Cells row.now k) said × (result ≡ in_cell k said) }
+    ensures answer { (said : _) × FnOnceReturnsAt F.FnOnce read (part_at Cells row.now k) said × (result ≡ in_cell k said) }
 {
     read(Directory::Cells.part(row, u16::from(k))).map_err(|place| Refusal::Unreadable {
         cell: k + 1,
@@ -29,13 +29,13 @@ fn cell<T, F: FnOnce(&[u8]) -> Result<T, u8>>(row: &[u8], k: u8, read: F) -> Res
 }
 
 fn read_entry(row: &[u8]) -> Result<EntryForm, Refusal>
-    ensures told { result ≡ read_entry row.now }
+    ensures answer { result ≡ read_entry row.now }
 {
     Ok(EntryForm {
         firm: cell(row, 0, read_number)?,
         client: cell(row, 1, read_number)?,
         side: cell(row, 2, read_number)?,
-        kind: cell(row, 3, read_type)?,
+        order_type: cell(row, 3, read_type)?,
         validity: cell(row, 4, read_number)?,
         price: cell(row, 5, read_price)?,
         trigger: cell(row, 6, read_price)?,
@@ -48,7 +48,7 @@ fn read_entry(row: &[u8]) -> Result<EntryForm, Refusal>
 }
 
 fn read_change(row: &[u8]) -> Result<ChangeForm, Refusal>
-    ensures told { result ≡ read_change row.now }
+    ensures answer { result ≡ read_change row.now }
 {
     Ok(ChangeForm {
         firm: cell(row, 0, read_number)?,
@@ -62,7 +62,7 @@ fn read_change(row: &[u8]) -> Result<ChangeForm, Refusal>
 }
 
 fn read_cancel(row: &[u8]) -> Result<CancelForm, Refusal>
-    ensures told { result ≡ read_cancel row.now }
+    ensures answer { result ≡ read_cancel row.now }
 {
     Ok(CancelForm {
         firm: cell(row, 0, read_number)?,
@@ -71,7 +71,7 @@ fn read_cancel(row: &[u8]) -> Result<CancelForm, Refusal>
 }
 
 fn read_mass_cancel(row: &[u8]) -> Result<MassCancelForm, Refusal>
-    ensures told { result ≡ read_mass_cancel row.now }
+    ensures answer { result ≡ read_mass_cancel row.now }
 {
     Ok(MassCancelForm {
         firm: cell(row, 0, read_number)?,
@@ -82,7 +82,7 @@ fn read_mass_cancel(row: &[u8]) -> Result<MassCancelForm, Refusal>
 }
 
 fn read_opening(row: &[u8]) -> Result<OpeningForm, Refusal>
-    ensures told { result ≡ read_opening row.now }
+    ensures answer { result ≡ read_opening row.now }
 {
     Ok(OpeningForm {
         day: cell(row, 0, read_number)?,
@@ -91,7 +91,7 @@ fn read_opening(row: &[u8]) -> Result<OpeningForm, Refusal>
 
 // Reads the cells that a row of the letter has.
 fn read_cells(letter: Letter, row: &[u8]) -> Result<Form, Refusal>
-    ensures told { result ≡ read_cells letter row.now }
+    ensures answer { result ≡ read_cells letter row.now }
 {
     match letter {
         Letter::Entry => read_entry(row).map(Form::Entry),
@@ -105,7 +105,7 @@ fn read_cells(letter: Letter, row: &[u8]) -> Result<Form, Refusal>
 
 // Whether the row has the cells of its letter and room for their pairs, and each pair is placed.
 fn check_cells(letter: Letter, count: u8, rest: &[u8], row: &[u8]) -> Result<(), Refusal>
-    ensures told { result ≡ check_cells letter count rest.now row.now }
+    ensures answer { result ≡ check_cells letter count rest.now row.now }
 {
     if count != letter.cells() || rest.len() < 2 * usize::from(count) {
         return Err(Refusal::WrongCells);
@@ -118,7 +118,7 @@ fn check_cells(letter: Letter, count: u8, rest: &[u8], row: &[u8]) -> Result<(),
 
 // Reads a row whose two first bytes are named: its letter, then its pairs, then its cells.
 fn read_lettered(byte: u8, count: u8, rest: &[u8], row: &[u8]) -> Result<Form, Refusal>
-    ensures told { result ≡ read_lettered (letter_of byte) count rest.now row.now }
+    ensures answer { result ≡ read_lettered (letter_of byte) count rest.now row.now }
 {
     let letter = Letter::try_from(byte)?;
     check_cells(letter, count, rest, row)?;
@@ -128,11 +128,11 @@ fn read_lettered(byte: u8, count: u8, rest: &[u8], row: &[u8]) -> Result<Form, R
 // Reads a row into the form that it asks for. The laws of reading stand with it: a row hangs on its own bytes alone, and a
 // cell on its own; a directory is refused for its first misplaced pair, and a cell for its first byte that cannot stand there.
 pub fn read_form(row: &[u8]) -> Result<Form, Refusal>
-    ensures told { result ≡ read_form row.now }
+    ensures answer { result ≡ read_form row.now }
     ensures rows { RowAlone }
     ensures cells { CellAlone }
     ensures pairs { PairRule }
-    ensures places { CellsTold }
+    ensures places { CellsReadOrTell }
 {
     match row {
         [letter, count, rest @ ..] => read_lettered(*letter, *count, rest, row),

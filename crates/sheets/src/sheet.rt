@@ -1,6 +1,6 @@
 // The sheet as a whole: its directory is looked through once, and then it hands out its rows one by one.
 ghost use Rattle.std.specs.Prelude.{◌≡◌, ◌+◌, Some, None, Ok, Err, MatchOption, MatchResult};
-ghost use Rattle.sheets.specs.Sheets.{row_count, sheet_refusal, Begun, next_row, Drew, moved_on, rows_left};
+ghost use Rattle.sheets.specs.Sheets.{row_count, sheet_refusal, Begun, next_row, HandsOut, moved_on, rows_left};
 
 use super::bytes::word_at;
 use super::directory::Directory;
@@ -29,7 +29,7 @@ pub struct Drawn<'a> {
 
 // The count of rows, where the sheet is long enough for its count and directory and has no more rows and bytes than it may.
 fn row_count(bytes: &[u8]) -> Result<u16, Refusal>
-    ensures told { result ≡ row_count bytes.now }
+    ensures answer { result ≡ row_count bytes.now }
 {
     let rows = word_at(bytes, 0);
     if bytes.len() < 2
@@ -46,7 +46,7 @@ fn row_count(bytes: &[u8]) -> Result<u16, Refusal>
 impl<'a> Sheet<'a> {
     // Looks the directory through; the first row comes next.
     pub fn read(bytes: &'a [u8]) -> Result<Sheet<'a>, Refusal>
-        ensures told { MatchResult result (λ s. (sheet_refusal bytes.now ≡ None) × Begun bytes.now s)
+        ensures answer { MatchResult result (λ s. (sheet_refusal bytes.now ≡ None) × Begun bytes.now s)
             (λ e. sheet_refusal bytes.now ≡ Some e) }
     {
         let count = row_count(bytes)?;
@@ -62,15 +62,15 @@ impl<'a> Sheet<'a> {
 
     // How many rows the sheet has.
     pub fn rows(&self) -> u16
-        ensures told { result ≡ self.now.count }
+        ensures answer { result ≡ self.now.count }
     {
         self.count
     }
 
     // The next row with its slip, or none after the last.
     pub fn draw(&mut self) -> Option<Drawn<'a>>
-        ensures told { Drew (next_row self.old) result }
-        ensures left { self.new ≡ moved_on self.old }
+        ensures answer { HandsOut (next_row self.old) result }
+        ensures state { self.new ≡ moved_on self.old }
         ensures rows { MatchOption result (rows_left self.old ≡ 0)
             (λ _. rows_left self.new + 1 ≡ rows_left self.old) }
     {

@@ -13,15 +13,15 @@ pub struct Slip {
 
 impl Slip {
     pub(crate) fn draw(row: u16) -> Slip
-        ensures told { result.row ≡ row }
+        ensures answer { result.row ≡ row }
     {
         Slip { row }
     }
 
     // Spends the slip: its row's reply goes to the end of the list, or is dropped where the list is full.
     pub fn post(self, replies: &mut Replies, answer: Result<(), Refusal>)
-        ensures left { posted replies.new ≡ with_reply replies.old (reply_of self.row answer) }
-        ensures same { replies.new.limit ≡ replies.old.limit }
+        ensures state { posted replies.new ≡ with_reply replies.old (reply_of self.row answer) }
+        ensures unchanged { replies.new.limit ≡ replies.old.limit }
     {
         let Slip { row } = self;
         replies.add(Reply::to_row(row, answer));

@@ -1,3 +1,3 @@
-pub mod Held
-pub mod Carry
-pub mod Lane
+pub mod SlotRecords
+pub mod PutAtGap
+pub mod SlotCalls

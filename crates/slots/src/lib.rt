@@ -2,5 +2,5 @@
 #![tactic(auto)]
 
 pub mod book;
-pub mod row;
 mod slots;
+pub mod store;

@@ -1,23 +1,23 @@
 // Slots in rank order, free ones between: the records are what the taken slots hold, in order.
 ghost use Rattle.std.specs.Prelude.{◌≡◌, ◌≤◌, length, take, reverse, is_none};
 ghost use Rattle.std.specs.List.{slice_get, prefix_len, list_any};
-ghost use Rattle.books.specs.Lists.{place_of, first_number};
-ghost use Rattle.books.specs.Model.{owned};
-ghost use Rattle.slots.specs.Slots.{held, not_behind, Stands, Free};
+ghost use Rattle.books.specs.RankedLists.{rank_index, index_of_number};
+ghost use Rattle.books.specs.Model.{has_client};
+ghost use Rattle.slots.specs.SlotContents.{slot_records, not_behind, SlotOfIndex, FreeSlot};
 
 use orders::rank::Rank;
 use orders::ranked::Ranked;
 
 // How many slots are taken.
 pub fn count_in<T: Copy>(slots: &[Option<T>]) -> usize
-    ensures { result ≡ length (held slots.now) }
+    ensures { result ≡ length (slot_records slots.now) }
 {
     slots.iter().filter_map(|s| *s).count()
 }
 
 // The slot of the record at a place.
 pub fn slot_of<T: Copy>(slots: &[Option<T>], at: usize) -> Option<usize>
-    ensures { Stands slots.now at result }
+    ensures { SlotOfIndex slots.now at result }
 {
     slots
         .iter()
@@ -28,14 +28,14 @@ pub fn slot_of<T: Copy>(slots: &[Option<T>], at: usize) -> Option<usize>
 
 // The record at a place: one is copied, and not those before it.
 pub fn look_in<T: Copy>(slots: &[Option<T>], at: usize) -> Option<T>
-    ensures { result ≡ slice_get (held slots.now) at }
+    ensures { result ≡ slice_get (slot_records slots.now) at }
 {
     slots[slot_of(slots, at)?]
 }
 
 // The place of the first record with a number.
 pub fn find_in<T: Ranked + Copy>(slots: &[Option<T>], number: u32) -> Option<usize>
-    ensures { result ≡ first_number T.Numbered.num number (held slots.now) }
+    ensures { result ≡ index_of_number T.Numbered.number number (slot_records slots.now) }
 {
     slots
         .iter()
@@ -45,7 +45,7 @@ pub fn find_in<T: Ranked + Copy>(slots: &[Option<T>], number: u32) -> Option<usi
 
 // Whether a record has a firm's client number.
 pub fn holds_in<T: Ranked + Copy>(slots: &[Option<T>], firm: u16, client: u32) -> bool
-    ensures { result ≡ list_any (owned T.Numbered.firm T.Numbered.client firm client) (held slots.now) }
+    ensures { result ≡ list_any (has_client T.Numbered.firm T.Numbered.client firm client) (slot_records slots.now) }
 {
     slots
         .iter()
@@ -55,7 +55,7 @@ pub fn holds_in<T: Ranked + Copy>(slots: &[Option<T>], firm: u16, client: u32) -
 
 // Where a rank belongs: behind the records that it is not before, in the middle of the free slots there.
 pub fn gap_of<T: Ranked + Copy>(slots: &[Option<T>], rank: Rank) -> usize
-    ensures is { length (held (take result slots.now)) ≡ place_of T.Ranked.place rank (held slots.now) }
+    ensures answer { length (slot_records (take result slots.now)) ≡ rank_index T.Ranked.rank rank (slot_records slots.now) }
     ensures within { result ≤ length slots.now }
 {
     let to = end_of(slots, rank);
@@ -65,7 +65,7 @@ pub fn gap_of<T: Ranked + Copy>(slots: &[Option<T>], rank: Rank) -> usize
 
 // The slot of the first record that a rank is before, or the end.
 fn end_of<T: Ranked + Copy>(slots: &[Option<T>], rank: Rank) -> usize
-    ensures is { result ≡ prefix_len (not_behind T.Ranked.place rank) slots.now }
+    ensures answer { result ≡ prefix_len (not_behind T.Ranked.rank rank) slots.now }
     ensures within { result ≤ length slots.now }
 {
     slots.iter().take_while(|s| not_behind(s, rank)).count()
@@ -73,14 +73,14 @@ fn end_of<T: Ranked + Copy>(slots: &[Option<T>], rank: Rank) -> usize
 
 // Whether a slot is free, or its record is one that a rank is not before.
 fn not_behind<T: Ranked + Copy>(slot: &Option<T>, rank: Rank) -> bool
-    ensures { result ≡ not_behind T.Ranked.place rank slot.now }
+    ensures { result ≡ not_behind T.Ranked.rank rank slot.now }
 {
     slot.is_none_or(|y| y.rank() <= rank)
 }
 
 // How many slots are free behind the last record.
 fn free_behind<T: Copy>(slots: &[Option<T>]) -> usize
-    ensures is { result ≡ prefix_len is_none (reverse slots.now) }
+    ensures answer { result ≡ prefix_len is_none (reverse slots.now) }
     ensures within { result ≤ length slots.now }
 {
     slots.iter().rev().take_while(|s| s.is_none()).count()
@@ -89,7 +89,7 @@ fn free_behind<T: Copy>(slots: &[Option<T>]) -> usize
 // The free slot nearest to a gap: one right before the gap is nearest.
 pub fn free_near<T: Copy>(slots: &[Option<T>], gap: usize) -> Option<usize>
     requires { gap ≤ length slots.now }
-    ensures { Free slots.now result }
+    ensures { FreeSlot slots.now result }
 {
     let before = slots[..gap].iter().rev().position(|s| s.is_none());
     let behind = slots[gap..].iter().position(|s| s.is_none());

@@ -1,4 +1,4 @@
-pub mod Turned
-pub mod Capped
-pub mod Each
-pub mod Coverage
+pub mod ReversedLists
+pub mod CappedFront
+pub mod EachRecord
+pub mod HighestCovers

@@ -1,13 +1,13 @@
 // A book over four lent slices.
 ghost use Rattle.std.specs.Prelude.{◌≡◌, min, length};
-ghost use Rattle.books.specs.Lanes.{empty_queues};
-ghost use Rattle.strips.specs.Book.{strip_queues};
+ghost use Rattle.books.specs.StoredQueues.{empty_queues};
+ghost use Rattle.strips.specs.StripQueues.{strip_queues};
 
 use crate::row::RankedRow;
-use books::lanes::Lanes;
+use books::stored_book::StoredBook;
 use orders::row::{OrderRow, StopRow};
 
-pub type StripBook<'a> = Lanes<RankedRow<'a, OrderRow>, RankedRow<'a, StopRow>>;
+pub type StripBook<'a> = StoredBook<RankedRow<'a, OrderRow>, RankedRow<'a, StopRow>>;
 
 // An empty book over four slices, whatever lies in them.
 pub fn strip_book<'a>(
@@ -18,7 +18,7 @@ pub fn strip_book<'a>(
 ) -> StripBook<'a>
     ensures { strip_queues result ≡ empty_queues (min 1000000 (length bids.old)) (min 1000000 (length offers.old)) (min 1000000 (length buys.old)) (min 1000000 (length sells.old)) }
 {
-    Lanes {
+    StoredBook {
         bids: RankedRow::over(bids),
         offers: RankedRow::over(offers),
         buys: RankedRow::over(buys),

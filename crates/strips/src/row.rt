@@ -1,12 +1,12 @@
 // A row in rank order over a lent slice: the records are the first `count` of the slice, and the first in rank stands last of them.
 ghost use Rattle.std.specs.Prelude.{◌≡◌, true};
-ghost use Rattle.strips.specs.Front.{ranked};
-ghost use Rattle.strips.specs.Seen.{covers_all};
+ghost use Rattle.strips.specs.Ranked.{ranked};
+ghost use Rattle.strips.specs.Highest.{all_not_above};
 
-mod lane;
-mod places;
+mod slices;
+mod store;
 
-use crate::seen::Seen;
+use crate::highest::HighestSeen;
 use orders::ranked::Numbered;
 
 // The count stands beside the slice, since who borrows a slice cannot make it shorter: the form that the owner named.
@@ -15,6 +15,6 @@ use orders::ranked::Numbered;
 pub struct RankedRow<'a, T: Numbered> {
     rows: &'a mut [T],
     count: usize,
-    seen: Seen,
-    ghost known: { covers_all T.Numbered.num T.Numbered.firm T.Numbered.client seen (ranked count rows.now) ≡ true },
+    highest: HighestSeen,
+    ghost known: { all_not_above T.Numbered.number T.Numbered.firm T.Numbered.client highest (ranked count rows.now) ≡ true },
 }

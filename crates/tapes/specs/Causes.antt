@@ -1,13 +1,13 @@
 -- The published number of each cause.
 use Rattle.std.specs.Prelude.{ℕ}
 use Rattle.tapes.specs.declared.cause.Cause.{Cause}
-use Rattle.tapes.specs.declared.cause.Cause.TheVariants.{Asked, Leftover, ShortReach, OwnInvestor, NoPlace, NoOpposite, DayClosed}
+use Rattle.tapes.specs.declared.cause.Cause.TheVariants.{NewOrder, Leftover, ShortReach, OwnInvestor, NotPut, NoOpposite, DayClosed}
 
-abbrev pub number : Cause → ℕ
-number Asked = 1
-number Leftover = 2
-number ShortReach = 3
-number OwnInvestor = 4
-number NoPlace = 5
-number NoOpposite = 6
-number DayClosed = 7
+abbrev pub cause_number : Cause → ℕ
+cause_number NewOrder = 1
+cause_number Leftover = 2
+cause_number ShortReach = 3
+cause_number OwnInvestor = 4
+cause_number NotPut = 5
+cause_number NoOpposite = 6
+cause_number DayClosed = 7

@@ -1,2 +1,2 @@
 pub mod Causes
-pub mod Reels
+pub mod Logs

@@ -5,7 +5,7 @@ use orders::price::Price;
 // Only a market order that found no opposite has no limit.
 #[derive(Clone, Copy)]
 pub enum Line {
-    Entered {
+    Accepted {
         number: u32,
         limit: Option<Price>,
         quantity: u32,
@@ -15,7 +15,7 @@ pub enum Line {
         limit: Price,
         quantity: u32,
     },
-    Released {
+    Triggered {
         number: u32,
         limit: Price,
         lots: u32,

@@ -1,16 +1,66 @@
-// What is written as things happen.
-ghost use Rattle.std.specs.Prelude.{◌≤◌, vec_len, vec_capacity};
+// What is written as things happen: the tape.
+ghost use Rattle.std.specs.Prelude.{◌≡◌, ◌≤◌, vec_len, vec_capacity, vec_items, reverse, IfOk};
+ghost use Rattle.tapes.specs.Logs.{line_added, free_lines, empty_log};
 
 use crate::line::Line;
+use std::alloc::{AllocError, Global};
+use std::marker::Model;
 
-// The lines written so far, at most `limit`, for which memory is held from the start.
+/// The lines written so far, at most `limit`, for which memory is held from the start. In a clause a tape is its `Log`.
 // Not one type with the list of replies: only a slip adds a reply, so a shared list would be wrapped there, call by call.
 #[derive(Drop)]
 pub struct Tape {
     lines: Vec<Line>,
     limit: usize,
-    ghost room: { limit ≤ vec_capacity lines },
-    ghost within: { vec_len lines ≤ limit },
 }
 
-mod writes;
+impl Model for Tape {
+    ghost use Rattle.std.specs.Prelude.{◌≤◌, vec_len, vec_capacity, vec_items, reverse};
+    ghost use Rattle.tapes.specs.Logs.{Log};
+
+    ghost Value = { Log };
+
+    ghost view = { λ t. record { lines = reverse (vec_items t.lines); limit = t.limit } };
+
+    ghost invariant = { λ t. (t.limit ≤ vec_capacity t.lines) × (vec_len t.lines ≤ t.limit) };
+}
+
+impl Tape {
+    /// An empty tape for `limit` lines.
+    pub fn new(heap: Global, limit: usize) -> Result<Tape, AllocError>
+        ensures { IfOk result (λ t. t ≡ empty_log limit) }
+    {
+        let lines = Vec::with_capacity(heap, limit)?;
+        Ok(Tape { lines, limit })
+    }
+
+    /// How many more lines it takes.
+    pub fn free_lines(&self) -> usize
+        ensures { result ≡ free_lines self.now }
+    {
+        self.limit - self.lines.len()
+    }
+
+    /// Writes a line; a full tape drops it.
+    pub fn write(&mut self, line: Line)
+        ensures { self.new ≡ line_added line self.old }
+    {
+        if self.lines.len() < self.limit {
+            self.lines.push_reserved(line);
+        }
+    }
+
+    /// Takes every line off; the room stays.
+    pub fn clear(&mut self)
+        ensures { self.new ≡ empty_log self.old.limit }
+    {
+        self.lines.clear();
+    }
+
+    /// The lines, the oldest first.
+    pub fn all(&self) -> &[Line]
+        ensures { self.now.lines ≡ reverse result.now }
+    {
+        self.lines.as_slice()
+    }
+}

@@ -1,80 +1,80 @@
 // Change.
 ghost use Rattle.std.specs.Prelude.{◌≡◌, None};
 ghost use Rattle.forms.specs.declared.form.Form.TheVariants.{Change as ChangeRow};
-ghost use Rattle.matching.specs.Stepping.{floor};
-ghost use Rattle.venue.specs.Steps.{quantity_open, disclosed_open, plan_for, change_told};
+ghost use Rattle.matching.specs.MatchStates.{match_state};
+ghost use Rattle.venue.specs.Steps.{check_quantity, check_disclosed, plan_for, change_answer};
 ghost use Rattle.venue.specs.Days.{state, answer, step};
 ghost use Rattle.venue.specs.declared.day.Day.TheVariants.{Open};
 
 use crate::day::OpenDay;
-use crate::known::{Claim, Found, known, standing_in};
-use crate::plan::Plan;
-use crate::rooms::{lines_free, stamps_free};
+use crate::lookup::{ClientNumberClaim, Found, firms_record, standing_in};
+use crate::plan::AmendPlan;
+use crate::room::{lines_free, stamps_free};
 use books::book::Book;
-use checks::changes::{ChangeAsked, read_change};
-use checks::combos::is_disclosed_barred;
 use forms::form::ChangeForm;
 use forms::refusal::Refusal;
-use matching::change::Change;
+use matching::amendment::Amendment;
 use matching::changing::change;
-use matching::clock::Clock;
+use matching::session::Session;
 use orders::order::Order;
 use tapes::tape::Tape;
+use validation::changes::{AmendRequest, read_change};
+use validation::combinations::is_disclosed_barred;
 
 // The new quantity is above the lots traded.
-fn quantity_open(asked: Change, order: Order) -> Result<(), Refusal>
-    ensures { result ≡ quantity_open asked order }
+fn check_quantity(request: Amendment, order: Order) -> Result<(), Refusal>
+    ensures { result ≡ check_quantity request order }
 {
-    if asked.new_quantity(order) <= order.quantity - order.leaves {
+    if request.new_quantity(order) <= order.quantity - order.open_lots {
         Err(Refusal::QuantityTraded)
     } else {
         Ok(())
     }
 }
 
-fn disclosed_open(asked: Change, order: Order) -> Result<(), Refusal>
-    ensures { result ≡ disclosed_open asked order }
+fn check_disclosed(request: Amendment, order: Order) -> Result<(), Refusal>
+    ensures { result ≡ check_disclosed request order }
 {
-    if is_disclosed_barred(asked.new_quantity(order), asked.new_disclosed(order)) {
+    if is_disclosed_barred(request.new_quantity(order), request.new_disclosed(order)) {
         Err(Refusal::DisclosedBarred)
     } else {
         Ok(())
     }
 }
 
-fn plan_for(asked: ChangeAsked, found: Found) -> Result<Plan, Refusal>
-    ensures { result ≡ plan_for asked found }
+fn plan_for(request: AmendRequest, found: Found) -> Result<AmendPlan, Refusal>
+    ensures { result ≡ plan_for request found }
 {
     let order = standing_in(found.record)?;
-    quantity_open(asked.change, order)?;
-    disclosed_open(asked.change, order)?;
-    Ok(Plan {
-        change: asked.change,
+    check_quantity(request.change, order)?;
+    check_disclosed(request.change, order)?;
+    Ok(AmendPlan {
+        change: request.change,
         at: found.at,
         order,
     })
 }
 
 // What the form will do, or why it is refused, by rising number.
-fn change_told<B: Book>(
+fn change_answer<B: Book>(
     book: &B,
     tape: &Tape,
-    clock: Clock,
+    session: Session,
     form: ChangeForm,
-) -> Result<Plan, Refusal>
-    ensures { result ≡ change_told form (floor (B.queues book.now) tape.now clock None) }
+) -> Result<AmendPlan, Refusal>
+    ensures { result ≡ change_answer form (match_state (B.queues book.now) tape.now session None) }
 {
-    let asked = read_change(form)?;
+    let request = read_change(form)?;
     lines_free(book, tape)?;
-    stamps_free(book, clock)?;
-    let found = known(book, asked.firm, asked.number)?;
-    let claim = Claim {
-        firm: asked.firm,
-        client: asked.change.client,
-        except: Some(asked.number),
+    stamps_free(book, session)?;
+    let found = firms_record(book, request.firm, request.number)?;
+    let claim = ClientNumberClaim {
+        firm: request.firm,
+        client: request.change.client,
+        except: Some(request.number),
     };
     claim.check(book)?;
-    plan_for(asked, found)
+    plan_for(request, found)
 }
 
 impl OpenDay {
@@ -85,24 +85,24 @@ impl OpenDay {
         tape: &mut Tape,
         form: ChangeForm,
     ) -> (OpenDay, Result<(), Refusal>)
-        ensures told { result.1 ≡ answer (ChangeRow form) (state (B.queues book.old) tape.old (Open self)) }
-        ensures left { state (B.queues book.new) tape.new (Open result.0) ≡ step (ChangeRow form) (state (B.queues book.old) tape.old (Open self)) }
+        ensures answer { result.1 ≡ answer (ChangeRow form) (state (B.queues book.old) tape.old (Open self)) }
+        ensures state { state (B.queues book.new) tape.new (Open result.0) ≡ step (ChangeRow form) (state (B.queues book.old) tape.old (Open self)) }
     {
-        let OpenDay { day, mut clock } = self;
-        match change_told(book, tape, clock, form) {
+        let OpenDay { day, mut session } = self;
+        match change_answer(book, tape, session, form) {
             Ok(plan) => {
                 change(
                     book,
                     tape,
-                    &mut clock,
+                    &mut session,
                     plan.change,
                     plan.order.side,
                     plan.at,
                     plan.order,
                 );
-                (OpenDay { day, clock }, Ok(()))
+                (OpenDay { day, session }, Ok(()))
             }
-            Err(refusal) => (OpenDay { day, clock }, Err(refusal)),
+            Err(refusal) => (OpenDay { day, session }, Err(refusal)),
         }
     }
 }

@@ -1,20 +1,19 @@
 // Closing and opening.
 ghost use Rattle.std.specs.Prelude.{◌≡◌, Ok, Err, MatchResult};
 ghost use Rattle.forms.specs.declared.form.Form.TheVariants.{Closing, Opening};
-ghost use Rattle.tapes.specs.Reels.{reel};
-ghost use Rattle.venue.specs.Steps.{opening_told};
+ghost use Rattle.venue.specs.Steps.{opening_result};
 ghost use Rattle.venue.specs.Days.{state, answer, step, Closes, Opens};
 
 use crate::day::{ClosedDay, OpenDay};
-use crate::rooms::lines_free;
+use crate::room::lines_free;
 use books::book::Book;
-use checks::removals::read_opening;
 use forms::form::OpeningForm;
 use forms::refusal::Refusal;
-use matching::pick::Pick;
+use matching::removal::Removal;
 use matching::removing::remove;
 use tapes::cause::Cause;
 use tapes::tape::Tape;
+use validation::removals::read_opening;
 
 impl OpenDay {
     // The Day orders and stops are removed and the day is closed, or it is handed back.
@@ -28,15 +27,20 @@ impl OpenDay {
         if let Err(refusal) = lines_free(book, tape) {
             return Err((self, refusal));
         }
-        remove(book, tape, Pick::Daily, Cause::DayClosed);
-        let OpenDay { day, clock } = self;
-        Ok(ClosedDay { day, clock })
+        remove(book, tape, Removal::DayOrders, Cause::DayClosed);
+        let OpenDay { day, session } = self;
+        Ok(ClosedDay { day, session })
     }
 }
 
 // The day that a form opens after a day, or why it is refused.
-fn opening_told<B: Book>(book: &B, tape: &Tape, day: u16, form: OpeningForm) -> Result<u16, Refusal>
-    ensures { result ≡ opening_told form day (B.queues book.now) (reel tape.now) }
+fn opening_result<B: Book>(
+    book: &B,
+    tape: &Tape,
+    day: u16,
+    form: OpeningForm,
+) -> Result<u16, Refusal>
+    ensures { result ≡ opening_result form day (B.queues book.now) tape.now }
 {
     let next = read_opening(form)?;
     lines_free(book, tape)?;
@@ -57,10 +61,10 @@ impl ClosedDay {
     ) -> Result<OpenDay, (ClosedDay, Refusal)>
         ensures { Opens form self (B.queues book.now) tape.now result }
     {
-        match opening_told(book, tape, self.day, form) {
+        match opening_result(book, tape, self.day, form) {
             Ok(day) => {
-                let ClosedDay { day: _, clock } = self;
-                Ok(OpenDay { day, clock })
+                let ClosedDay { day: _, session } = self;
+                Ok(OpenDay { day, session })
             }
             Err(refusal) => Err((self, refusal)),
         }

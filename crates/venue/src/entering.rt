@@ -1,42 +1,42 @@
 // Entry.
 ghost use Rattle.std.specs.Prelude.{◌≡◌, None};
 ghost use Rattle.forms.specs.declared.form.Form.TheVariants.{Entry};
-ghost use Rattle.matching.specs.Stepping.{floor};
-ghost use Rattle.venue.specs.Steps.{entry_told};
+ghost use Rattle.matching.specs.MatchStates.{match_state};
+ghost use Rattle.venue.specs.Steps.{entry_answer};
 ghost use Rattle.venue.specs.Days.{state, answer, step};
 ghost use Rattle.venue.specs.declared.day.Day.TheVariants.{Open};
 
 use crate::day::OpenDay;
-use crate::known::Claim;
-use crate::rooms::{lines_free, stamps_free};
+use crate::lookup::ClientNumberClaim;
+use crate::room::{lines_free, stamps_free};
 use books::book::Book;
-use checks::entries::read_entry;
 use forms::form::EntryForm;
 use forms::refusal::Refusal;
-use matching::asked::Asked;
-use matching::clock::Clock;
 use matching::entering::enter;
+use matching::new_order::NewOrder;
+use matching::session::Session;
 use tapes::tape::Tape;
+use validation::entries::read_entry;
 
 // What the form asks for, or why it is refused, by rising number.
-fn entry_told<B: Book>(
+fn entry_answer<B: Book>(
     book: &B,
     tape: &Tape,
-    clock: Clock,
+    session: Session,
     form: EntryForm,
-) -> Result<Asked, Refusal>
-    ensures { result ≡ entry_told form (floor (B.queues book.now) tape.now clock None) }
+) -> Result<NewOrder, Refusal>
+    ensures { result ≡ entry_answer form (match_state (B.queues book.now) tape.now session None) }
 {
-    let asked = read_entry(form)?;
+    let new_order = read_entry(form)?;
     lines_free(book, tape)?;
-    stamps_free(book, clock)?;
-    let claim = Claim {
-        firm: asked.firm,
-        client: asked.client,
+    stamps_free(book, session)?;
+    let claim = ClientNumberClaim {
+        firm: new_order.firm,
+        client: new_order.client,
         except: None,
     };
     claim.check(book)?;
-    Ok(asked)
+    Ok(new_order)
 }
 
 // Every step of an open day matches on what was told in this way: each has its own form, and does its own.
@@ -48,16 +48,16 @@ impl OpenDay {
         tape: &mut Tape,
         form: EntryForm,
     ) -> (OpenDay, Result<(), Refusal>)
-        ensures told { result.1 ≡ answer (Entry form) (state (B.queues book.old) tape.old (Open self)) }
-        ensures left { state (B.queues book.new) tape.new (Open result.0) ≡ step (Entry form) (state (B.queues book.old) tape.old (Open self)) }
+        ensures answer { result.1 ≡ answer (Entry form) (state (B.queues book.old) tape.old (Open self)) }
+        ensures state { state (B.queues book.new) tape.new (Open result.0) ≡ step (Entry form) (state (B.queues book.old) tape.old (Open self)) }
     {
-        let OpenDay { day, mut clock } = self;
-        match entry_told(book, tape, clock, form) {
-            Ok(asked) => {
-                enter(book, tape, &mut clock, asked);
-                (OpenDay { day, clock }, Ok(()))
+        let OpenDay { day, mut session } = self;
+        match entry_answer(book, tape, session, form) {
+            Ok(new_order) => {
+                enter(book, tape, &mut session, new_order);
+                (OpenDay { day, session }, Ok(()))
             }
-            Err(refusal) => (OpenDay { day, clock }, Err(refusal)),
+            Err(refusal) => (OpenDay { day, session }, Err(refusal)),
         }
     }
 }

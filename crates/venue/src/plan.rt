@@ -1,10 +1,10 @@
 // What an accepted change will do.
-use matching::change::Change;
+use matching::amendment::Amendment;
 use orders::order::Order;
 
 #[derive(Clone, Copy)]
-pub struct Plan {
-    pub change: Change,
+pub struct AmendPlan {
+    pub change: Amendment,
     pub at: usize,
     pub order: Order,
 }

@@ -1,37 +1,40 @@
 // Cancel and mass cancel.
 ghost use Rattle.std.specs.Prelude.{◌≡◌};
 ghost use Rattle.forms.specs.declared.form.Form.TheVariants.{Cancel, MassCancel};
-ghost use Rattle.tapes.specs.Reels.{reel};
-ghost use Rattle.venue.specs.Steps.{cancel_told, mass_told};
+ghost use Rattle.venue.specs.Steps.{cancel_answer, mass_cancel_answer};
 ghost use Rattle.venue.specs.Days.{state, answer, step};
 ghost use Rattle.venue.specs.declared.day.Day.TheVariants.{Open};
 
 use crate::day::OpenDay;
-use crate::known::{Found, known};
-use crate::rooms::lines_free;
+use crate::lookup::{Found, firms_record};
+use crate::room::lines_free;
 use books::book::Book;
-use checks::removals::{read_cancel, read_mass_cancel};
 use forms::form::{CancelForm, MassCancelForm};
 use forms::refusal::Refusal;
-use matching::pick::{Pick, Wanted};
-use matching::removing::{pull, remove};
+use matching::removal::{CancelFilter, Removal};
+use matching::removing::{cancel_resting, remove};
 use tapes::cause::Cause;
 use tapes::tape::Tape;
+use validation::removals::{read_cancel, read_mass_cancel};
 
-fn cancel_told<B: Book>(book: &B, tape: &Tape, form: CancelForm) -> Result<Found, Refusal>
-    ensures { result ≡ cancel_told form (B.queues book.now) (reel tape.now) }
+fn cancel_answer<B: Book>(book: &B, tape: &Tape, form: CancelForm) -> Result<Found, Refusal>
+    ensures { result ≡ cancel_answer form (B.queues book.now) tape.now }
 {
-    let asked = read_cancel(form)?;
+    let request = read_cancel(form)?;
     lines_free(book, tape)?;
-    known(book, asked.firm, asked.number)
+    firms_record(book, request.firm, request.number)
 }
 
-fn mass_told<B: Book>(book: &B, tape: &Tape, form: MassCancelForm) -> Result<Wanted, Refusal>
-    ensures { result ≡ mass_told form (B.queues book.now) (reel tape.now) }
+fn mass_cancel_answer<B: Book>(
+    book: &B,
+    tape: &Tape,
+    form: MassCancelForm,
+) -> Result<CancelFilter, Refusal>
+    ensures { result ≡ mass_cancel_answer form (B.queues book.now) tape.now }
 {
-    let wanted = read_mass_cancel(form)?;
+    let filter = read_mass_cancel(form)?;
     lines_free(book, tape)?;
-    Ok(wanted)
+    Ok(filter)
 }
 
 impl OpenDay {
@@ -42,15 +45,15 @@ impl OpenDay {
         tape: &mut Tape,
         form: CancelForm,
     ) -> (OpenDay, Result<(), Refusal>)
-        ensures told { result.1 ≡ answer (Cancel form) (state (B.queues book.old) tape.old (Open self)) }
-        ensures left { state (B.queues book.new) tape.new (Open result.0) ≡ step (Cancel form) (state (B.queues book.old) tape.old (Open self)) }
+        ensures answer { result.1 ≡ answer (Cancel form) (state (B.queues book.old) tape.old (Open self)) }
+        ensures state { state (B.queues book.new) tape.new (Open result.0) ≡ step (Cancel form) (state (B.queues book.old) tape.old (Open self)) }
     {
-        match cancel_told(book, tape, form) {
+        match cancel_answer(book, tape, form) {
             Ok(found) => {
-                pull(
+                cancel_resting(
                     book,
                     tape,
-                    Cause::Asked,
+                    Cause::NewOrder,
                     found.queue,
                     found.at,
                     found.record,
@@ -68,12 +71,12 @@ impl OpenDay {
         tape: &mut Tape,
         form: MassCancelForm,
     ) -> (OpenDay, Result<(), Refusal>)
-        ensures told { result.1 ≡ answer (MassCancel form) (state (B.queues book.old) tape.old (Open self)) }
-        ensures left { state (B.queues book.new) tape.new (Open result.0) ≡ step (MassCancel form) (state (B.queues book.old) tape.old (Open self)) }
+        ensures answer { result.1 ≡ answer (MassCancel form) (state (B.queues book.old) tape.old (Open self)) }
+        ensures state { state (B.queues book.new) tape.new (Open result.0) ≡ step (MassCancel form) (state (B.queues book.old) tape.old (Open self)) }
     {
-        match mass_told(book, tape, form) {
-            Ok(wanted) => {
-                remove(book, tape, Pick::Matching(wanted), Cause::Asked);
+        match mass_cancel_answer(book, tape, form) {
+            Ok(filter) => {
+                remove(book, tape, Removal::Matching(filter), Cause::NewOrder);
                 (self, Ok(()))
             }
             Err(refusal) => (self, Err(refusal)),

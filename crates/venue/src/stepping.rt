@@ -1,18 +1,18 @@
 // One step of a day of which only the run knows whether it is open.
 // By a match on the form, not by closures: a form is data that a member sends.
 ghost use Rattle.std.specs.Prelude.{◌≡◌};
-ghost use Rattle.checks.specs.Removals.{read_opening};
+ghost use Rattle.validation.specs.Removals.{read_opening};
 ghost use Rattle.venue.specs.Days.{state, wrong_day, closed_refusal, answer, step};
 ghost use Rattle.venue.specs.declared.day.Day.TheVariants.{Open, Closed};
 
 use crate::day::{ClosedDay, Day, OpenDay};
 use books::book::Book;
-use checks::changes::read_change;
-use checks::entries::read_entry;
-use checks::removals::{read_cancel, read_mass_cancel, read_opening};
 use forms::form::{Form, OpeningForm};
 use forms::refusal::Refusal;
 use tapes::tape::Tape;
+use validation::changes::read_change;
+use validation::entries::read_entry;
+use validation::removals::{read_cancel, read_mass_cancel, read_opening};
 
 fn step_open<B: Book>(
     open: OpenDay,
@@ -20,25 +20,25 @@ fn step_open<B: Book>(
     tape: &mut Tape,
     form: Form,
 ) -> (Day, Result<(), Refusal>)
-    ensures told { result.1 ≡ answer form (state (B.queues book.old) tape.old (Open «open»)) }
-    ensures left { state (B.queues book.new) tape.new result.0 ≡ step form (state (B.queues book.old) tape.old (Open «open»)) }
+    ensures answer { result.1 ≡ answer form (state (B.queues book.old) tape.old (Open «open»)) }
+    ensures state { state (B.queues book.new) tape.new result.0 ≡ step form (state (B.queues book.old) tape.old (Open «open»)) }
 {
     match form {
         Form::Entry(form) => {
-            let (open, told) = open.enter(book, tape, form);
-            (Day::Open(open), told)
+            let (open, answer) = open.enter(book, tape, form);
+            (Day::Open(open), answer)
         }
         Form::Change(form) => {
-            let (open, told) = open.change(book, tape, form);
-            (Day::Open(open), told)
+            let (open, answer) = open.change(book, tape, form);
+            (Day::Open(open), answer)
         }
         Form::Cancel(form) => {
-            let (open, told) = open.cancel(book, tape, form);
-            (Day::Open(open), told)
+            let (open, answer) = open.cancel(book, tape, form);
+            (Day::Open(open), answer)
         }
         Form::MassCancel(form) => {
-            let (open, told) = open.mass_cancel(book, tape, form);
-            (Day::Open(open), told)
+            let (open, answer) = open.mass_cancel(book, tape, form);
+            (Day::Open(open), answer)
         }
         Form::Closing => match open.close(book, tape) {
             Ok(closed) => (Day::Closed(closed), Ok(())),
@@ -83,8 +83,8 @@ fn step_closed<B: Book>(
     tape: &Tape,
     form: Form,
 ) -> (Day, Result<(), Refusal>)
-    ensures told { result.1 ≡ answer form (state (B.queues book.now) tape.now (Closed closed)) }
-    ensures left { state (B.queues book.now) tape.now result.0 ≡ step form (state (B.queues book.now) tape.now (Closed closed)) }
+    ensures answer { result.1 ≡ answer form (state (B.queues book.now) tape.now (Closed closed)) }
+    ensures state { state (B.queues book.now) tape.now result.0 ≡ step form (state (B.queues book.now) tape.now (Closed closed)) }
 {
     match form {
         Form::Opening(form) => match closed.open(book, tape, form) {
@@ -104,8 +104,8 @@ impl Day {
         tape: &mut Tape,
         form: Form,
     ) -> (Day, Result<(), Refusal>)
-        ensures told { result.1 ≡ answer form (state (B.queues book.old) tape.old self) }
-        ensures left { state (B.queues book.new) tape.new result.0 ≡ step form (state (B.queues book.old) tape.old self) }
+        ensures answer { result.1 ≡ answer form (state (B.queues book.old) tape.old self) }
+        ensures state { state (B.queues book.new) tape.new result.0 ≡ step form (state (B.queues book.old) tape.old self) }
     {
         match self {
             Day::Open(open) => step_open(open, book, tape, form),

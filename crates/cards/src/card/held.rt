@@ -1,15 +1,15 @@
 // What a front card holds, queue by queue.
 ghost use Rattle.std.specs.Prelude.{◌≡◌, Some};
 ghost use Rattle.orders.specs.Rows.{order_of, stop_of};
-ghost use Rattle.books.specs.declared.queue.Record.{Record as Kind};
+ghost use Rattle.books.specs.declared.queue.Record.{Record as RecordValue};
 ghost use Rattle.books.specs.declared.queue.Record.TheVariants.{Standing, Waiting};
-ghost use Rattle.books.specs.Model.{queue_of, record_rank, owned, order_of_record};
-ghost use Rattle.cards.specs.Cards.{held_by};
+ghost use Rattle.books.specs.Model.{queue_of, record_rank, has_client, order_of_record};
+ghost use Rattle.cards.specs.CardQueues.{held_by};
 ghost use Rattle.cards.specs.Held.{held_at, held_with, held_without, none_held, over_first, one_is};
 
 use super::FrontCard;
-use books::kept::ranks_as;
 use books::queue::{Queue, Record};
+use books::stored_row::ranks_as;
 use orders::order::{Order, Stop};
 use orders::ranked::Numbered;
 use orders::row::{OrderRow, StopRow};
@@ -27,7 +27,7 @@ pub(super) fn over(held: Option<Record>, first: Option<Record>) -> Option<Record
 
 // Whether a held record is what a firm knows by a client number.
 pub(super) fn is_of(held: Option<Record>, firm: u16, client: u32) -> bool
-    ensures { result ≡ one_is (owned (λ (r : Kind). (order_of_record r).firm) (λ (r : Kind). (order_of_record r).client) firm client) held }
+    ensures { result ≡ one_is (has_client (λ (r : RecordValue). (order_of_record r).firm) (λ (r : RecordValue). (order_of_record r).client) firm client) held }
 {
     held.is_some_and(|r| r.firm() == firm && r.client() == client)
 }
@@ -36,8 +36,8 @@ pub(super) fn is_of(held: Option<Record>, firm: u16, client: u32) -> bool
 impl<B> FrontCard<B> {
     // The record that is held over a queue.
     pub(super) fn held(&self, queue: Queue) -> Option<Record>
-        ensures told { result ≡ held_at queue (held_by self.now) }
-        ensures there { (x : Kind) → result ≡ Some x → queue_of x ≡ queue }
+        ensures answer { result ≡ held_at queue (held_by self.now) }
+        ensures there { (x : RecordValue) → result ≡ Some x → queue_of x ≡ queue }
     {
         match queue {
             Queue::Orders(Side::Buy) => self.bid.map(Record::from),
@@ -49,8 +49,8 @@ impl<B> FrontCard<B> {
 
     // A record is held over its queue.
     pub(super) fn hold(&mut self, record: Record)
-        ensures left { held_by self.new ≡ held_with «record» (held_by self.old) }
-        ensures same { self.new.below ≡ self.old.below }
+        ensures state { held_by self.new ≡ held_with «record» (held_by self.old) }
+        ensures unchanged { self.new.below ≡ self.old.below }
     {
         match record {
             Record::Standing(o) => match o.side {
@@ -66,8 +66,8 @@ impl<B> FrontCard<B> {
 
     // Nothing is held over a queue any more.
     pub(super) fn let_go(&mut self, queue: Queue)
-        ensures left { held_by self.new ≡ held_without queue (held_by self.old) }
-        ensures same { self.new.below ≡ self.old.below }
+        ensures state { held_by self.new ≡ held_without queue (held_by self.old) }
+        ensures unchanged { self.new.below ≡ self.old.below }
     {
         match queue {
             Queue::Orders(Side::Buy) => self.bid = None,
@@ -79,8 +79,8 @@ impl<B> FrontCard<B> {
 
     // Nothing is held any more.
     pub(super) fn let_all_go(&mut self)
-        ensures left { held_by self.new ≡ none_held }
-        ensures same { self.new.below ≡ self.old.below }
+        ensures state { held_by self.new ≡ none_held }
+        ensures unchanged { self.new.below ≡ self.old.below }
     {
         self.bid = None;
         self.offer = None;

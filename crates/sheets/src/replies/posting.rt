@@ -9,7 +9,7 @@ use std::alloc::{AllocError, Global};
 impl Replies {
     // An empty list with room for `limit` replies.
     pub fn new(heap: Global, limit: usize) -> Result<Replies, AllocError>
-        ensures told { IfOk result (λ rs. (posted rs ≡ []) × (rs.limit ≡ limit)) }
+        ensures answer { IfOk result (λ rs. (posted rs ≡ []) × (rs.limit ≡ limit)) }
     {
         let list = Vec::with_capacity(heap, limit)?;
         Ok(Replies { list, limit })
@@ -17,21 +17,21 @@ impl Replies {
 
     // How many more replies it takes.
     pub fn free(&self) -> usize
-        ensures told { result ≡ free_replies self.now }
+        ensures answer { result ≡ free_replies self.now }
     {
         self.limit - self.list.len()
     }
 
     pub fn all(&self) -> &[Reply]
-        ensures told { result.now ≡ posted self.now }
+        ensures answer { result.now ≡ posted self.now }
     {
         self.list.as_slice()
     }
 
     // Adds a reply at the end; a full list drops it.
     pub(crate) fn add(&mut self, reply: Reply)
-        ensures left { posted self.new ≡ with_reply self.old reply }
-        ensures same { self.new.limit ≡ self.old.limit }
+        ensures state { posted self.new ≡ with_reply self.old reply }
+        ensures unchanged { self.new.limit ≡ self.old.limit }
     {
         if self.list.len() < self.limit {
             self.list.push_reserved(reply);

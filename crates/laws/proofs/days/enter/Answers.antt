@@ -1,8 +1,8 @@
 use Rattle.forms.specs.declared.form.Form.TheVariants.{Entry}
 use Rattle.venue.specs.Days.{state}
 use Rattle.venue.specs.declared.day.Day.TheVariants.{Open}
-use Rattle.laws.proofs.Running.{upheld}
+use Rattle.laws.proofs.WholeRuns.{holds_after}
 use Rattle.laws.proofs.days.enter.Goals as goal
 
-pub returns-clause-upheld : goal.returns-clause-upheld
-returns-clause-upheld g c = upheld (Entry c.args.form) (state (g.B.Book.queues c.args.book.now) c.args.tape.now (Open c.args.day))
+pub returns-clause-holds_after : goal.returns-clause-holds_after
+returns-clause-holds_after g c = holds_after (Entry c.args.form) (state (g.B.Book.queues c.args.book.now) c.args.tape.now (Open c.args.day))

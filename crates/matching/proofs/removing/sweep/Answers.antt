@@ -1,33 +1,33 @@
 use Rattle.std.proofs.Common.{◌≡◌, ◌-◌, ◌<◌, ◌+◌, sym, ap, ◌∙◌, arith}
 use Rattle.orders.specs.declared.order.Order.{Order}
 use Rattle.books.specs.Model.{count}
-use Rattle.matching.specs.Clocks.{started}
-use Rattle.matching.specs.Model.{Floor}
-use Rattle.matching.specs.Removing.{picks, sweep}
-use Rattle.matching.proofs.Sweeps.{at_end, pulled, passed, seen_within, one_taken}
+use Rattle.matching.specs.Sessions.{session_from}
+use Rattle.matching.specs.Model.{MatchState}
+use Rattle.matching.specs.Removing.{removes, sweep}
+use Rattle.matching.proofs.SweepTurns.{at_end, pulled, passed, seen_within, one_taken}
 use Rattle.matching.proofs.removing.sweep.Goals as goal
 
-pub loop-record-smaller-then-picks : goal.loop-record-smaller-then-picks
-loop-record-smaller-then-picks g c =
+pub loop-record-smaller-then-removes : goal.loop-record-smaller-then-removes
+loop-record-smaller-then-removes g c =
     let q = g.B.Book.queues c.loop-record.book in
     let n = c.args.queue in
     let i = c.loop-record.at in
     let w : i < count n q = seen_within n i q c.in-Some.record (sym c.look.ensures ∙ c.in-Some.is) in
-    let t : count n (g.B.Book.queues c.pull.new.book) + 1 ≡ count n q =
-    ap (λ (f : Floor). count n f.queues + 1) (c.pull.ensures (started 1)) ∙ one_taken n i q w in
+    let t : count n (g.B.Book.queues c.cancel_resting.new.book) + 1 ≡ count n q =
+    ap (λ (f : MatchState). count n f.queues + 1) (c.cancel_resting.ensures (session_from 1)) ∙ one_taken n i q w in
     omega arith
 
-pub loop-record-preserved-then-picks : goal.loop-record-preserved-then-picks
-loop-record-preserved-then-picks g c d =
+pub loop-record-preserved-then-removes : goal.loop-record-preserved-then-removes
+loop-record-preserved-then-removes g c d =
     let q = g.B.Book.queues c.loop-record.book in
     let n = c.args.queue in
     let i = c.loop-record.at in
     let e = sym c.look.ensures ∙ c.in-Some.is in
     let w : i < count n q = seen_within n i q c.in-Some.record e in
-    let t : count n (g.B.Book.queues c.pull.new.book) + 1 ≡ count n q =
-    ap (λ (f : Floor). count n f.queues + 1) (c.pull.ensures d) ∙ one_taken n i q w in
-    ap (λ (f : Floor). sweep (count n (g.B.Book.queues c.pull.new.book) - i) c.args.pick c.args.cause n i f) (c.pull.ensures d)
-    ∙ sym (pulled (count n q - i) (count n (g.B.Book.queues c.pull.new.book) - i) c.args.pick c.args.cause n i _ c.in-Some.record (omega arith) e (c.if-picks.ensures ∙ ap (λ (o : Order). picks c.args.pick o) c.order.ensures))
+    let t : count n (g.B.Book.queues c.cancel_resting.new.book) + 1 ≡ count n q =
+    ap (λ (f : MatchState). count n f.queues + 1) (c.cancel_resting.ensures d) ∙ one_taken n i q w in
+    ap (λ (f : MatchState). sweep (count n (g.B.Book.queues c.cancel_resting.new.book) - i) c.args.removal c.args.cause n i f) (c.cancel_resting.ensures d)
+    ∙ sym (pulled (count n q - i) (count n (g.B.Book.queues c.cancel_resting.new.book) - i) c.args.removal c.args.cause n i _ c.in-Some.record (omega arith) e (c.if-removes.ensures ∙ ap (λ (o : Order). removes c.args.removal o) c.order.ensures))
     ∙ c.loop-record.invariant d
 
 pub overflow_add-at : goal.overflow_add-at
@@ -52,11 +52,11 @@ loop-record-preserved g c d =
     let i = c.loop-record.at in
     let e = sym c.look.ensures ∙ c.in-Some.is in
     let w : i < count n q = seen_within n i q c.in-Some.record e in
-    sym (passed (count n q - i) (count n q - (i + 1)) c.args.pick c.args.cause n i _ c.in-Some.record (omega arith) e (c.if-picks.ensures ∙ ap (λ (o : Order). picks c.args.pick o) c.order.ensures))
+    sym (passed (count n q - i) (count n q - (i + 1)) c.args.removal c.args.cause n i _ c.in-Some.record (omega arith) e (c.if-removes.ensures ∙ ap (λ (o : Order). removes c.args.removal o) c.order.ensures))
     ∙ c.loop-record.invariant d
 
 pub returns : goal.returns
 returns g c d =
     let q = g.B.Book.queues c.loop-record.book in
-    sym (at_end (count c.args.queue q - c.loop-record.at) c.args.pick c.args.cause c.args.queue c.loop-record.at _ (sym c.look.ensures ∙ c.in_default.is))
+    sym (at_end (count c.args.queue q - c.loop-record.at) c.args.removal c.args.cause c.args.queue c.loop-record.at _ (sym c.look.ensures ∙ c.in_default.is))
     ∙ c.loop-record.invariant d

@@ -1,7 +1,7 @@
 use Rattle.std.proofs.Common.{◌≡◌, ◌+◌, ◌*◌, take, arith}
 use Rattle.std.proofs.lemmas.Str.Parse.{digit_at, digits_value-take-le}
 use Rattle.std.specs.Str.Parse.{digits_value}
-use Rattle.sheets.proofs.Digits.{short, value_step}
+use Rattle.sheets.proofs.DigitValues.{short, value_step}
 use Rattle.sheets.proofs.cells.number_of.Goals as goal
 
 pub overflow_mul-number : goal.overflow_mul-number

@@ -1,6 +1,6 @@
-use Rattle.cards.specs.Cards.{held_by}
-use Rattle.cards.specs.Covered.{look_first}
+use Rattle.cards.specs.CardQueues.{held_by}
+use Rattle.cards.specs.CardCalls.{look_first}
 use Rattle.cards.proofs.card.FrontCard.first.Goals as goal
 
 pub returns : goal.returns
-returns g c = rw (c.over.ensures, c.held.ensures.told, c.look.ensures) (look_first (held_by c.args.self.now) (g.B.Book.queues c.args.self.now.below) c.args.queue)
+returns g c = rw (c.over.ensures, c.held.ensures.answer, c.look.ensures) (look_first (held_by c.args.self.now) (g.B.Book.queues c.args.self.now.below) c.args.queue)

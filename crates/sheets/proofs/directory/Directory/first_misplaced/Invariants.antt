@@ -1,7 +1,7 @@
 use Rattle.std.proofs.Common.{◌≡◌, ◌-◌}
-use Rattle.sheets.specs.Layout.{walk, first_misplaced}
+use Rattle.sheets.specs.Layout.{first_misplaced_from, first_misplaced}
 use Rattle.sheets.proofs.directory.Directory.first_misplaced.Given as goal
 
 -- what is left of the walk gives the answer
 abbrev pub invariant-loop-k : goal.invariant-loop-k
-invariant-loop-k l = walk l.self l.bytes (l.count - l.k) l.k l.floor ≡ first_misplaced l.self l.bytes l.count
+invariant-loop-k l = first_misplaced_from l.self l.bytes (l.count - l.k) l.k l.least ≡ first_misplaced l.self l.bytes l.count

@@ -1,8 +1,0 @@
-use Rattle.std.proofs.Common.{◌∙◌}
-use Rattle.cards.specs.Cards.{held_by}
-use Rattle.cards.specs.Covered.{look_later}
-use Rattle.cards.proofs.card.work.FrontCardBook.look.Goals as goal
-
-pub returns : goal.returns
-returns g c = c.look.ensures
-    ∙ look_later (held_by c.args.self.now) (g.B.Book.queues c.args.self.now.below) c.args.queue c.args.at c.if-at-eq0.false

@@ -1,0 +1,120 @@
+// The front card as a book.
+ghost use Rattle.std.specs.Prelude.{◌≡◌, None};
+ghost use Rattle.books.specs.Model.{look_at, queue_of, put_answer, after_put, rewrite_allowed, rewritten};
+ghost use Rattle.cards.specs.CardQueues.{card_queues, held_by};
+ghost use Rattle.cards.specs.Held.{held_at};
+ghost use Rattle.cards.specs.CardCalls.{covered_bounded};
+
+use super::FrontCard;
+use super::held::{is_of, over};
+use books::book::Book;
+use books::queue::{PutError, Queue, Record};
+use books::stored_row::ranks_as;
+
+impl<B: Book> FrontCard<B> {
+    // A card that holds nothing.
+    pub fn over(below: B) -> FrontCard<B>
+        ensures { card_queues B.Book.queues result ≡ B.Book.queues below }
+    {
+        FrontCard {
+            below,
+            bid: None,
+            offer: None,
+            buy: None,
+            sell: None,
+        }
+    }
+
+    // A queue's first record.
+    fn first(&self, queue: Queue) -> Option<Record>
+        ensures { result ≡ look_at queue 0 (card_queues B.Book.queues self.now) }
+    {
+        over(self.held(queue), self.below.look(queue, 0))
+    }
+
+    // What is held over a queue goes below.
+    fn flush(&mut self, queue: Queue)
+        ensures state { card_queues B.Book.queues self.new ≡ card_queues B.Book.queues self.old }
+        ensures none { held_at queue (held_by self.new) ≡ None }
+    {
+        if let Some(h) = self.held(queue) {
+            let _ = self.below.rewrite(0, h);
+            self.let_go(queue);
+        }
+    }
+
+    // A rewrite of a queue's first record is held back: the book below stays as it is.
+    fn hold_back(&mut self, record: Record) -> bool
+        ensures answer { result ≡ rewrite_allowed 0 «record» (card_queues B.Book.queues self.old) }
+        ensures state { card_queues B.Book.queues self.new ≡ rewritten 0 «record» (card_queues B.Book.queues self.old) }
+        ensures unchanged { self.new.below ≡ self.old.below }
+    {
+        let fits = ranks_as(self.below.look(record.queue(), 0), record);
+        if fits {
+            self.hold(record);
+        }
+        fits
+    }
+}
+
+impl<B: Book> Book for FrontCard<B> {
+    ghost queues = { card_queues B.Book.queues };
+
+    ghost bounded = { λ b. covered_bounded (held_by b) (B.Book.queues b.below) (B.Book.bounded b.below) };
+
+    fn size(&self, queue: Queue) -> (usize, usize) {
+        self.below.size(queue)
+    }
+
+    fn look(&self, queue: Queue, at: usize) -> Option<Record> {
+        if at == 0 {
+            return self.first(queue);
+        }
+        self.below.look(queue, at)
+    }
+
+    fn find(&self, number: u32) -> Option<(Queue, usize)> {
+        self.below.find(number)
+    }
+
+    // After a put nothing is held over its queue, beside what the trait asks.
+    fn put(&mut self, record: Record) -> Result<(), PutError>
+        ensures answer { result ≡ put_answer «record» (card_queues B.Book.queues self.old) }
+        ensures state { card_queues B.Book.queues self.new ≡ after_put result «record» (card_queues B.Book.queues self.old) }
+        ensures none { held_at (queue_of «record») (held_by self.new) ≡ None }
+    {
+        self.flush(record.queue());
+        self.below.put(record)
+    }
+
+    // A rewrite of a queue's first record leaves the book below as it is, beside what the trait asks.
+    fn rewrite(&mut self, at: usize, record: Record) -> bool
+        ensures answer { result ≡ rewrite_allowed at «record» (card_queues B.Book.queues self.old) }
+        ensures state { card_queues B.Book.queues self.new ≡ rewritten at «record» (card_queues B.Book.queues self.old) }
+        ensures unchanged { at ≡ 0 → self.new.below ≡ self.old.below }
+    {
+        if at == 0 {
+            return self.hold_back(record);
+        }
+        self.below.rewrite(at, record)
+    }
+
+    fn take(&mut self, queue: Queue, at: usize) -> Option<Record> {
+        if at == 0 {
+            let first = self.first(queue);
+            let _ = self.below.take(queue, 0);
+            self.let_go(queue);
+            return first;
+        }
+        self.below.take(queue, at)
+    }
+
+    fn may_have_client(&self, queue: Queue, firm: u16, client: u32) -> bool {
+        is_of(self.held(queue), firm, client) || self.below.may_have_client(queue, firm, client)
+    }
+
+    fn clear(&mut self) {
+        self.below.clear();
+        self.let_all_go();
+    }
+}

@@ -1,0 +1,168 @@
+-- Each event is within room: its lines and stamps are had in full, what it puts is taken, and its orders keep their bounds.
+use Rattle.std.proofs.Common.{◌≡◌, ℕ, zero, suc, ◌-◌, ◌≤◌, Bool, true, false, cond, eqb, ltb, List, [], ◌∷◌, Some, None, Option, sym, refl, ap, ◌∙◌, subst, arith, Ok, Err}
+use Rattle.std.specs.List.{slice_get}
+use Rattle.std.specs.Option.{option_map}
+use Rattle.std.proofs.lemmas.Bool.{cond_both, eqb-false}
+use Rattle.orders.specs.declared.side.Side.{Side}
+use Rattle.orders.specs.declared.side.Side.TheVariants.{Buy, Sell}
+use Rattle.orders.specs.declared.order.Order.{Order}
+use Rattle.orders.specs.declared.order.Stop.{Stop}
+use Rattle.orders.specs.Sides.{opposite, is_immediate}
+use Rattle.orders.specs.Lots.{order_refilled, within_limit, same_investor, with_lots, showing}
+use Rattle.orders.proofs.RowRoundTrip.{in_bounds_from}
+use Rattle.books.specs.declared.queue.Queue.TheVariants.{Orders}
+use Rattle.books.specs.declared.queue.Record.{Record}
+use Rattle.books.specs.declared.queue.Record.TheVariants.{Standing, Waiting}
+use Rattle.books.specs.declared.queue.PutError.TheVariants.{Full, Twice}
+use Rattle.books.specs.Model.{Queues, at, count, capacity, queue_of, number_of, standing_order, put_answer, taken, PutAnswer}
+use Rattle.tapes.specs.declared.cause.Cause.TheVariants.{Leftover, OwnInvestor, ShortReach}
+use Rattle.matching.specs.declared.new_order.OrderType.{OrderType}
+use Rattle.matching.specs.declared.new_order.OrderType.TheVariants.{Limit, Market, StopLimit}
+use Rattle.matching.specs.declared.new_order.NewOrder.{NewOrder}
+use Rattle.matching.specs.Model.{MatchState, Event, accepts, accepts_stop, accepts_and_cancels, accepts_unmatched, cancels_incoming, trades, rests, triggers, cancels_resting, amends, requeues, RestingOutcome, filled, refilled, reduced, outcome, trade_lots, apply}
+use Rattle.matching.specs.Running.{next_event, next_given, first_order, first_stop, rests_or_cancels, leftover, incoming_event, if_ripe, lower_turn, trigger_event, run_events, weight, run_to_rest}
+use Rattle.matching.specs.Entering.{entered_order, falls_short, accepts_or_cancels, entered_stop, accepts_stop_or_cancels, market_arrival, arrival_as, arrival}
+use Rattle.matching.proofs.PartsFall.{reduced_fits, refilled_fits}
+use Rattle.matching.proofs.WeightFalls.{run_events_next, run_events_zero, weight_falls}
+use Rattle.laws.specs.Tally.{incoming}
+use Rattle.laws.specs.WithinRoom.{outcome_put, PutDone, outcome_in_bounds, EventInBounds, WithinRoom, Trace, ended, then}
+use Rattle.laws.proofs.ConsistentQueues.{ConsistentQueues}
+use Rattle.laws.proofs.SumsOverOrders.{queued, of_incoming, one_of, put_new}
+use Rattle.laws.proofs.EventsApply.{Trades, Single, one_itself, put_back_done, rest_side}
+use Rattle.laws.proofs.LinesAndStamps.{Roomy, tape_is, stamp_is}
+use Rattle.laws.proofs.AccountsBalance.{absent}
+use Rattle.laws.proofs.RunsToRest.{Consistent, consistent_apply, Quiescent, Next?, fits_next, Enough, roomy_next, enough_next}
+
+pub trace-++ : {f g h : MatchState} → Trace f g → Trace g h → Trace f h
+trace-++ ended k = k
+trace-++ (then e s c) k = then e s (trace-++ c k)
+
+-- no put answers twice
+
+not_twice : (b : Bool) → ◌≡◌ {A = PutAnswer} (cond b (Ok tt) (Err Full)) (Err Twice) → ⊥
+not_twice true e = let u : ◌≡◌ {A = ℕ} 0 1 = cc in omega arith
+not_twice false e = let u : ◌≡◌ {A = ℕ} 0 1 = cc in omega arith
+
+never_twice : (e : Record) (q : Queues) → queued (one_of (number_of e)) q ≡ 0 → put_answer e q ≡ Err Twice → ⊥
+never_twice e q n k = not_twice (ltb (count (queue_of e) q) (capacity (queue_of e) q)) (sym (put_new e q n) ∙ k)
+
+-- the number incoming is in no queue
+pub incoming_alone : (f : MatchState) (o : Order) → f.incoming ≡ Some o → Single f → queued (one_of o.number) f.queues ≡ 0
+incoming_alone f o h s = let z : of_incoming (one_of o.number incoming) f.incoming ≡ one_of o.number incoming o = ap
+    (of_incoming (one_of o.number incoming)) h in omega (arith, s o.number, one_itself incoming o)
+
+-- what is next puts well
+
+well_stands : (p : PutAnswer) (o : Order) (f : MatchState) → put_answer (Standing o) f.queues ≡ p → f.incoming ≡ Some o → Single f → PutDone (rests_or_cancels p o) f
+well_stands (Ok _) o f e h s = e
+well_stands (Err Full) o f e h s = e
+well_stands (Err Twice) o f e h s = absurd (never_twice (Standing o) f.queues (incoming_alone f o h s) e)
+
+well_leftover : (o : Order) (f : MatchState) → f.incoming ≡ Some o → Single f → PutDone (leftover o f.queues) f
+well_leftover o f h s =
+    cond_both (is_immediate o.validity) (cancels_incoming Leftover o) (rests_or_cancels (put_answer (Standing o) f.queues) o) (λ e. PutDone e f) (λ _. tt)
+    (λ _. well_stands (put_answer (Standing o) f.queues) o f refl h s)
+
+well_trade : (o r : Order) (f : MatchState) → Trades o r f → ConsistentQueues f.queues → Single f → PutDone (trades o r) f
+well_trade o r f h g s =
+    let d = (rest_side o r f h g).0 in
+    subst (λ (z : Side). outcome_put (outcome (trade_lots o r) r) (trade_lots o r) f.session.next_stamp r (taken (Orders z) 0 f.queues)) d
+    (go (outcome (trade_lots o r) r) (subst (λ (z : Side). slice_get (at z f.queues.stands) 0 ≡ Some r) (sym d) h.first))
+  where
+    go : (k : RestingOutcome) → slice_get (at r.side f.queues.stands) 0 ≡ Some r → outcome_put k (trade_lots o r) f.session.next_stamp r (taken (Orders r.side) 0 f.queues)
+    go filled e = tt
+    go refilled e = put_back_done r (order_refilled f.session.next_stamp (trade_lots o r) r) f refl refl e g s
+    go reduced e = tt
+
+well_meets : (o : Order) (l : List Order) (f : MatchState) → f.incoming ≡ Some o → at (opposite o.side) f.queues.stands ≡ l → ConsistentQueues f.queues → Single f →
+    PutDone (incoming_event o (standing_order (option_map Standing (slice_get l 0))) f.queues) f
+well_meets o [] f h e g s = well_leftover o f h s
+well_meets o (r ∷ rest) f h e g s =
+    cond_both (within_limit o.side o.price r.price) (cond (same_investor o r) (cancels_incoming OwnInvestor o) (trades o r)) (leftover o f.queues) (λ e. PutDone e f)
+    (λ w. cond_both (same_investor o r) (cancels_incoming OwnInvestor o) (trades o r) (λ e. PutDone e f) (λ _. tt) (λ _. well_trade o r f (record { is_incoming = h; first = ap (λ l. slice_get l 0) e; within_its_limit = w }) g s))
+    (λ w. well_leftover o f h s)
+
+abbrev Well? : Option Event → MatchState → Type 0
+Well? None f = Unit {0}
+Well? (Some e) f = PutDone e f
+
+well_sooner : (f : MatchState) (a b : Option Stop) → Well? (trigger_event (lower_turn a b)) f
+well_sooner f None None = tt
+well_sooner f (Some x) None = tt
+well_sooner f None (Some y) = tt
+well_sooner f (Some x) (Some y) = cond_both (ltb y.order.turn x.order.turn) (Some (Sell, y)) (Some (Buy, x)) (λ m. Well? (trigger_event m) f) (λ _. tt) (λ _. tt)
+
+well_next : (f : MatchState) → Consistent f → Well? (next_event f) f
+well_next f s = go f.incoming refl
+  where
+    go : (m : Option Order) → f.incoming ≡ m → Well? (next_given m f) f
+    go (Some o) h = well_meets o (at (opposite o.side) f.queues.stands) f h refl s.queues s.counts.single
+    go None h = well_sooner f (if_ripe Buy f.session.last_price (first_stop Buy f.queues)) (if_ripe Sell f.session.last_price (first_stop Sell f.queues))
+
+-- bounds
+
+outcome_within : (lots stamp : ℕ) (r : Order) → lots ≤ r.shown → outcome_in_bounds (outcome lots r) lots stamp r
+outcome_within lots stamp r h =
+    cond_both (eqb r.open_lots lots) filled (cond (eqb r.shown lots) refilled reduced) (λ k. outcome_in_bounds k lots stamp r) (λ _. tt)
+    (λ e. let z = eqb-false r.open_lots lots e in cond_both (eqb r.shown lots) refilled reduced (λ k. outcome_in_bounds k lots stamp r)
+    (λ _. in_bounds_from (with_lots stamp (r.open_lots - lots) (showing r.disclosed (r.open_lots - lots)) r) (refilled_fits stamp lots r (omega arith)))
+    (λ d. let y = eqb-false r.shown lots d in in_bounds_from (with_lots r.turn (r.open_lots - lots) (r.shown - lots) r) (reduced_fits lots r (omega arith))))
+
+pub bounds_kept : (e : Event) (f : MatchState) → EventInBounds e f
+bounds_kept (accepts o) f = tt
+bounds_kept (accepts_stop x) f = tt
+bounds_kept (accepts_and_cancels c o) f = tt
+bounds_kept (accepts_unmatched n k) f = tt
+bounds_kept (cancels_incoming c o) f = tt
+bounds_kept (trades o r) f = (
+  (λ h. in_bounds_from (with_lots o.turn (o.open_lots - trade_lots o r) (showing o.disclosed (o.open_lots - trade_lots o r)) o)
+      (refilled_fits o.turn (trade_lots o r) o h)),
+  outcome_within (trade_lots o r) f.session.next_stamp r (omega arith),
+)
+bounds_kept (rests o) f = tt
+bounds_kept (triggers s x) f = in_bounds_from (with_lots f.session.next_stamp (x.order.open_lots - 0) (showing x.order.disclosed (x.order.open_lots - 0)) x.order)
+    (refilled_fits f.session.next_stamp 0 x.order (omega arith))
+bounds_kept (cancels_resting c n i r) f = tt
+bounds_kept (amends i o) f = tt
+bounds_kept (requeues s i o) f = tt
+
+pub within_room : (e : Event) (f : MatchState) → Roomy e f → PutDone e f → WithinRoom e f
+within_room e f r p = record { lines_written = tape_is e f r; stamps_drawn = stamp_is e f r; put_done = p; in_bounds = bounds_kept e f }
+
+run_events_trace : (k : ℕ) (f : MatchState) → Consistent f → Enough f → Trace f (run_events k f)
+run_events_trace zero f s h = subst (Trace f) (sym (run_events_zero f)) ended
+run_events_trace (suc k) f s h = go (next_event f) refl (fits_next f s.queues) (well_next f s) (run_events_trace k)
+  where
+    go : (m : Option Event) → next_event f ≡ m → Next? m f → Well? m f → ((f : MatchState) → Consistent f → Enough f → Trace f (run_events k f)) → Trace f (run_events (suc k) f)
+    go None n _ _ ih = subst (Trace f) (sym (run_events_next k f None n)) ended
+    go (Some e) n x p ih =
+        let w = weight_falls e f n in
+        let r = roomy_next e f x.1 w h in
+        subst (Trace f) (sym (run_events_next k f (Some e) n)) (then e (within_room e f r p) (ih (apply e f) (consistent_apply e f x.0 r s) (enough_next e f x.1 w h)))
+
+pub run_to_rest_trace : (f : MatchState) → Consistent f → Enough f → Trace f (run_to_rest f)
+unfolding run_to_rest
+run_to_rest_trace f s h = run_events_trace (weight f) f s h
+
+-- an arrival puts well
+
+well_judged : (a : NewOrder) (o : Order) (f : MatchState) → PutDone (accepts_or_cancels a o f.queues) f
+well_judged a o f = cond_both (falls_short a o f.queues) (accepts_and_cancels ShortReach o) (accepts o) (λ e. PutDone e f) (λ _. tt) (λ _. tt)
+
+well_kind : (k : OrderType) (a : NewOrder) (f : MatchState) → Quiescent f → PutDone (arrival_as k a f.session.next_stamp f.queues) f
+well_kind (Limit price) a f c = well_judged a (entered_order a price f.session.next_stamp) f
+well_kind Market a f c = go (first_order (opposite a.side) f.queues)
+  where
+    go : (m : Option Order) → PutDone (market_arrival a f.session.next_stamp m f.queues) f
+    go None = tt
+    go (Some r) = well_judged a (entered_order a r.price f.session.next_stamp) f
+well_kind (StopLimit limit trigger) a f c = go (put_answer (Waiting (entered_stop trigger (entered_order a limit f.session.next_stamp))) f.queues) refl
+  where
+    go : (p : PutAnswer) → put_answer (Waiting (entered_stop trigger (entered_order a limit f.session.next_stamp))) f.queues ≡ p →
+        PutDone (accepts_stop_or_cancels p (entered_stop trigger (entered_order a limit f.session.next_stamp))) f
+    go (Ok _) e = e
+    go (Err Full) e = (entered_stop trigger (entered_order a limit f.session.next_stamp), refl, e)
+    go (Err Twice) e = absurd (never_twice (Waiting (entered_stop trigger (entered_order a limit f.session.next_stamp))) f.queues (omega (arith, absent f c.consistent.counts f.session.next_stamp (omega arith))) e)
+
+pub well_arrival : (a : NewOrder) (f : MatchState) → Quiescent f → PutDone (arrival a f.session.next_stamp f.queues) f
+well_arrival a f c = well_kind a.order_type a f c

@@ -1,0 +1,77 @@
+-- The rows that steps build keep the bounds, so each order is as it was meant.
+use Rattle.std.proofs.Common.{◌≡◌, ℕ, ◌-◌, ◌*◌, ◌<◌, ◌≤◌, sym, refl, ap, ◌∙◌, arith}
+use Rattle.orders.specs.declared.order.Order.{Order}
+use Rattle.orders.specs.declared.row.OrderRow.{OrderRow}
+use Rattle.orders.specs.declared.price.Price.{Price}
+use Rattle.orders.specs.Bounds.{InBounds}
+use Rattle.orders.specs.Rows.{row_of, sound_row, order_of}
+use Rattle.orders.specs.Lots.{showing, with_lots, order_reduced, order_refilled}
+use Rattle.orders.proofs.RowRoundTrip.{in_bounds_from}
+use Rattle.matching.specs.declared.new_order.NewOrder.{NewOrder}
+use Rattle.matching.specs.Entering.{entered_order}
+use Rattle.matching.proofs.PartsFall.{reduced_fits, refilled_fits, showing_0, showing_1, showing_some}
+
+-- a row within the bounds reads back
+pub reads : (r : OrderRow) → InBounds r → row_of (order_of r) ≡ r
+reads r h = ap (λ b. sound_row b r) (in_bounds_from r h)
+
+pub reduced_row : (lots : ℕ) (o : Order) → lots < o.shown → row_of (order_reduced lots o) ≡ with_lots o.turn (o.open_lots - lots) (o.shown - lots) o
+reduced_row lots o h = reads (with_lots o.turn (o.open_lots - lots) (o.shown - lots) o) (reduced_fits lots o h)
+
+pub refilled_row : (turn lots : ℕ) (o : Order) → lots < o.open_lots →
+    row_of (order_refilled turn lots o) ≡ with_lots turn (o.open_lots - lots) (showing o.disclosed (o.open_lots - lots)) o
+refilled_row turn lots o h = reads (with_lots turn (o.open_lots - lots) (showing o.disclosed (o.open_lots - lots)) o) (refilled_fits turn lots o h)
+
+-- so many lots may be asked for, of which so many are disclosed
+pub record Allowed (quantity disclosed : ℕ) : Type 0 where
+  pub some : 1 ≤ quantity
+  pub few : quantity ≤ 1000000
+  pub parts : 1 ≤ disclosed → quantity ≤ 16 * disclosed
+
+-- lots shown anew are within the bounds
+pub anew_fits : (r : OrderRow) → r.shown ≡ showing r.disclosed r.open_lots → 1 ≤ r.open_lots → r.open_lots ≤ r.quantity → Allowed r.quantity r.disclosed → InBounds r
+anew_fits r e h q a =
+    let s = showing_some r.disclosed r.open_lots h in
+    record {
+      some = omega arith;
+      within = omega arith;
+      open_within = q;
+      few = a.few;
+      whole = λ z. e ∙ showing_0 r.disclosed r.open_lots z;
+      part = λ z. omega (arith, showing_1 r.disclosed r.open_lots z);
+      hidden = λ z. omega (arith, showing_1 r.disclosed r.open_lots z, a.parts z);
+    }
+
+abbrev pub entered_row : NewOrder → Price → ℕ → OrderRow
+entered_row a price stamp = record {
+  number = stamp;
+  turn = stamp;
+  firm = a.firm;
+  client = a.client;
+  side = a.side;
+  price = price;
+  quantity = a.quantity;
+  open_lots = a.quantity;
+  shown = showing a.disclosed a.quantity;
+  disclosed = a.disclosed;
+  validity = a.validity;
+  investor = a.investor;
+  tag = a.tag;
+}
+
+pub order_from_row : (a : NewOrder) (price : Price) (stamp : ℕ) → Allowed a.quantity a.disclosed → row_of (entered_order a price stamp) ≡ entered_row a price stamp
+order_from_row a price stamp h = reads (entered_row a price stamp) (anew_fits (entered_row a price stamp) refl h.some (omega arith) h)
+
+-- an order that shows as in trading
+abbrev pub Shows : Order → Type 0
+Shows o = o.shown ≡ showing o.disclosed o.open_lots
+
+pub refilled_shows : (turn lots : ℕ) (o : Order) → lots < o.open_lots → Shows (order_refilled turn lots o)
+refilled_shows turn lots o h =
+    let e = refilled_row turn lots o h in
+    ap (λ (r : OrderRow). r.shown) e ∙ sym (ap (λ (r : OrderRow). showing r.disclosed r.open_lots) e)
+
+pub entered_shows : (a : NewOrder) (price : Price) (stamp : ℕ) → Allowed a.quantity a.disclosed → Shows (entered_order a price stamp)
+entered_shows a price stamp h =
+    let e = order_from_row a price stamp h in
+    ap (λ (r : OrderRow). r.shown) e ∙ sym (ap (λ (r : OrderRow). showing r.disclosed r.open_lots) e)

@@ -1,0 +1,257 @@
+-- What is next fits, there is room for it, and so one event follows another until nothing is next.
+use Rattle.std.proofs.Common.{◌≡◌, ℕ, zero, suc, ◌+◌, ◌<◌, ◌≤◌, Bool, true, false, cond, ltb, List, [], ◌∷◌, length, is_some, Some, None, Option, sym, refl, ap, ◌∙◌, subst, arith, length-append, Ok, Err}
+use Rattle.std.specs.List.{AllByRecursion, slice_get}
+use Rattle.std.specs.Option.{option_map}
+use Rattle.std.proofs.lemmas.Bool.{cond_both, ltb-true}
+use Rattle.orders.specs.declared.side.Side.{Side}
+use Rattle.orders.specs.declared.side.Side.TheVariants.{Buy, Sell}
+use Rattle.orders.specs.declared.price.Price.{Price}
+use Rattle.orders.specs.declared.order.Order.{Order}
+use Rattle.orders.specs.declared.order.Stop.{Stop}
+use Rattle.orders.specs.Ranks.{ranks_ahead, stop_key}
+use Rattle.orders.specs.Sides.{opposite, is_immediate}
+use Rattle.orders.specs.Lots.{within_limit, same_investor}
+use Rattle.books.specs.declared.queue.Record.{Record}
+use Rattle.books.specs.declared.queue.Record.TheVariants.{Standing, Waiting}
+use Rattle.books.specs.declared.queue.PutError.TheVariants.{Full, Twice}
+use Rattle.books.specs.Model.{Queues, at, rank_of, stop_rank_of, count, capacity, queue_of, number_of, found, standing_order, waiting_stop, put_answer, PutAnswer}
+use Rattle.tapes.specs.declared.cause.Cause.TheVariants.{Leftover, OwnInvestor}
+use Rattle.matching.specs.Model.{MatchState, Event, accepts, accepts_stop, accepts_and_cancels, accepts_unmatched, cancels_incoming, trades, rests, triggers, cancels_resting, amends, requeues, RestingOutcome, filled, refilled, reduced, outcome, trade_lots, apply}
+use Rattle.matching.specs.Running.{next_event, next_given, first_stop, rests_or_cancels, leftover, incoming_event, ripe, if_ripe, lower_turn, trigger_event, run_events, weight, run_to_rest}
+use Rattle.matching.proofs.WeightFalls.{run_events_next, run_events_zero, weight_falls}
+use Rattle.laws.specs.Quiescence.{Unripe}
+use Rattle.laws.proofs.SortedLists.{Sorted}
+use Rattle.laws.proofs.ConsistentQueues.{ConsistentQueues, Sided, StopSided, Beyond, beyond_first, no_riper}
+use Rattle.laws.proofs.EventsApply.{MayApply, Ready, queues_apply, ready_apply}
+use Rattle.laws.specs.WithinRoom.{event_lines, event_stamps, outcome_stamps}
+use Rattle.laws.proofs.LinesAndStamps.{tape, Roomy, tape_is, stamp_is, limit_is}
+use Rattle.laws.proofs.SumsOverOrders.{everywhere}
+use Rattle.laws.proofs.AccountsBalance.{Counts, counts_apply}
+use Rattle.laws.proofs.TurnsBelowStamp.{late, early_apply}
+
+-- what holds of a match state at all times
+pub record Consistent (f : MatchState) : Type 0 where
+  pub queues : ConsistentQueues f.queues
+  pub counts : Counts f
+  pub ready : Ready f.incoming
+  pub early : everywhere (late f.session.next_stamp) f ≡ 0
+
+pub consistent_apply : (e : Event) (f : MatchState) → MayApply e f → Roomy e f → Consistent f → Consistent (apply e f)
+consistent_apply e f h r s = record {
+  queues = queues_apply e f h s.queues s.counts.single s.ready;
+  counts = counts_apply e f h r s.queues
+      s.counts;
+  ready = ready_apply e f h s.queues s.ready;
+  early = early_apply e f h r s.queues s.counts.single s.early;
+}
+
+-- the events that follow by themselves
+abbrev pub Follows : Event → Type 0
+Follows (accepts o) = ⊥
+Follows (accepts_stop x) = ⊥
+Follows (accepts_and_cancels c o) = ⊥
+Follows (accepts_unmatched n k) = ⊥
+Follows (cancels_incoming c o) = Unit {0}
+Follows (trades o r) = Unit {0}
+Follows (rests o) = Unit {0}
+Follows (triggers s x) = Unit {0}
+Follows (cancels_resting c n i r) = ⊥
+Follows (amends i o) = ⊥
+Follows (requeues s i o) = ⊥
+
+outcome_draws_one : (k : RestingOutcome) → outcome_stamps k ≤ 1
+outcome_draws_one filled = omega arith
+outcome_draws_one refilled = omega arith
+outcome_draws_one reduced = omega arith
+
+-- such an event writes one line at most, and draws one stamp at most
+one_line_each : (e : Event) → Follows e → (length (event_lines e) ≤ 1) × (event_stamps e ≤ 1)
+one_line_each (accepts o) i = absurd i
+one_line_each (accepts_stop x) i = absurd i
+one_line_each (accepts_and_cancels c o) i = absurd i
+one_line_each (accepts_unmatched n k) i = absurd i
+one_line_each (cancels_incoming c o) i = (omega arith, omega arith)
+one_line_each (trades o r) i = (omega arith, outcome_draws_one (outcome (trade_lots o r) r))
+one_line_each (rests o) i = (omega arith, omega arith)
+one_line_each (triggers s x) i = (omega arith, omega arith)
+one_line_each (cancels_resting c n i r) h = absurd h
+one_line_each (amends i o) h = absurd h
+one_line_each (requeues s i o) h = absurd h
+
+abbrev pub Next : Event → MatchState → Type 0
+Next e f = MayApply e f × Follows e
+
+abbrev pub Next? : Option Event → MatchState → Type 0
+Next? None f = Unit {0}
+Next? (Some e) f = Next e f
+
+-- a put that is done found room
+pub done_room : (e : Record) (q : Queues) → put_answer e q ≡ Ok tt → count (queue_of e) q < capacity (queue_of e) q
+done_room e q h = go (ltb (count (queue_of e) q) (capacity (queue_of e) q)) refl h
+  where
+    go : (b : Bool) → ltb (count (queue_of e) q) (capacity (queue_of e) q) ≡ b → ◌≡◌ {A = PutAnswer} (cond b (cond (is_some (found (number_of e) q)) (Err Twice) (Ok tt)) (Err Full)) (Ok tt) →
+        count (queue_of e) q < capacity (queue_of e) q
+    go true k _ = ltb-true (count (queue_of e) q) (capacity (queue_of e) q) k
+    go false k z = let u : ◌≡◌ {A = ℕ} 0 1 = cc in absurd (omega arith)
+
+next_stands : (p : PutAnswer) (o : Order) (f : MatchState) → put_answer (Standing o) f.queues ≡ p → f.incoming ≡ Some o →
+    Beyond o.side o.price (at (opposite o.side) f.queues.stands) → Next (rests_or_cancels p o) f
+next_stands (Ok _) o f e h b = (record { is_incoming = h; beyond = b; room_left = done_room (Standing o) f.queues e }, tt)
+next_stands (Err Full) o f e h b = (h, tt)
+next_stands (Err Twice) o f e h b = (h, tt)
+
+next_leftover : (o : Order) (f : MatchState) → f.incoming ≡ Some o → Beyond o.side o.price (at (opposite o.side) f.queues.stands) → Next (leftover o f.queues) f
+next_leftover o f h b =
+    cond_both (is_immediate o.validity) (cancels_incoming Leftover o) (rests_or_cancels (put_answer (Standing o) f.queues) o) (λ e. Next e f) (λ _. (h, tt))
+    (λ _. next_stands (put_answer (Standing o) f.queues) o f refl h b)
+
+next_meets : (o : Order) (l : List Order) (f : MatchState) → f.incoming ≡ Some o → at (opposite o.side) f.queues.stands ≡ l → ConsistentQueues f.queues →
+    Next (incoming_event o (standing_order (option_map Standing (slice_get l 0))) f.queues) f
+next_meets o [] f h e g = next_leftover o f h (rw e tt)
+next_meets o (r ∷ rest) f h e g =
+    let s : Side = opposite o.side in
+    cond_both (within_limit o.side o.price r.price) (cond (same_investor o r) (cancels_incoming OwnInvestor o) (trades o r)) (leftover o f.queues) (λ e. Next e f)
+    (λ w. cond_both (same_investor o r) (cancels_incoming OwnInvestor o) (trades o r) (λ e. Next e f) (λ _. (h, tt)) (λ _. (record { is_incoming = h; first = ap (λ l. slice_get l 0) e; within_its_limit = w }, tt)))
+    (λ w. next_leftover o f h (subst (Beyond o.side o.price) (sym e) (beyond_first o.side o.price r rest (subst (Sorted rank_of) e (g.sorted s))
+    (subst (AllByRecursion (Sided s)) e (g.sided s)) w)))
+
+-- a ripe first stop is the first of its queue
+ripe_first : (s : Side) (last : Option Price) (l : List Stop) (x : Stop) → if_ripe s last (waiting_stop (option_map Waiting (slice_get l 0))) ≡ Some x → slice_get l 0 ≡ Some x
+ripe_first s last [] x e = e
+ripe_first s last (y ∷ l) x e = go (ripe s last y.trigger) e
+  where
+    go : (b : Bool) → cond b (Some y) None ≡ Some x → Some y ≡ Some x
+    go true e = e
+    go false e = let z : ◌≡◌ {A = ℕ} 0 1 = cc in absurd (omega arith)
+
+next_sooner : (f : MatchState) (a b : Option Stop) → f.incoming ≡ None → ((x : Stop) → a ≡ Some x → slice_get (at Buy f.queues.waits) 0 ≡ Some x) →
+    ((y : Stop) → b ≡ Some y → slice_get (at Sell f.queues.waits) 0 ≡ Some y) → Next? (trigger_event (lower_turn a b)) f
+next_sooner f None None h p q = tt
+next_sooner f (Some x) None h p q = ((h, p x refl), tt)
+next_sooner f None (Some y) h p q = ((h, q y refl), tt)
+next_sooner f (Some x) (Some y) h p q = cond_both (ltb y.order.turn x.order.turn) (Some (Sell, y)) (Some (Buy, x)) (λ m. Next? (trigger_event m) f)
+    (λ _. ((h, q y refl), tt)) (λ _. ((h, p x refl), tt))
+
+pub fits_next : (f : MatchState) → ConsistentQueues f.queues → Next? (next_event f) f
+fits_next f g = go f.incoming refl
+  where
+    go : (m : Option Order) → f.incoming ≡ m → Next? (next_given m f) f
+    go (Some o) h = next_meets o (at (opposite o.side) f.queues.stands) f h refl g
+    go None h =
+        next_sooner f (if_ripe Buy f.session.last_price (first_stop Buy f.queues)) (if_ripe Sell f.session.last_price (first_stop Sell f.queues)) h
+        (ripe_first Buy f.session.last_price f.queues.waits.buy) (ripe_first Sell f.session.last_price f.queues.waits.sell)
+
+-- from one match state to another by such events, each with room for its line and its stamp
+pub data Leads : MatchState → MatchState → Type 0 where
+  at_end : {f : MatchState} → Leads f f
+  then : {f g : MatchState} (e : Event) → Next e f → Roomy e f → Leads (apply e f) g → Leads f g
+
+pub leads_consistent : {f g : MatchState} → Leads f g → Consistent f → Consistent g
+leads_consistent at_end s = s
+leads_consistent (then {f} e n r l) s = leads_consistent l (consistent_apply e f n.0 r s)
+
+-- a free line and an undrawn stamp for each of the weight
+pub record Enough (f : MatchState) : Type 0 where
+  pub free_lines : length (tape f) + weight f ≤ f.tape.limit
+  pub free_stamps : f.session.next_stamp + weight f ≤ 1000000000
+
+pub roomy_next : (e : Event) (f : MatchState) → Follows e → suc (weight (apply e f)) ≤ weight f → Enough f → Roomy e f
+roomy_next e f i w h = let a = one_line_each e i in record { free_lines = omega (arith, h.free_lines, a.0); free_stamps = λ _. omega (arith, h.free_stamps) }
+
+pub enough_next : (e : Event) (f : MatchState) → Follows e → suc (weight (apply e f)) ≤ weight f → Enough f → Enough (apply e f)
+enough_next e f i w h =
+    let a = one_line_each e i in
+    let r = roomy_next e f i w h in
+    let d : length (tape (apply e f)) ≡ length (event_lines e) + length (tape f) = ap length (tape_is e f r) ∙ length-append (event_lines e) (tape f) in
+    record { free_lines = omega (arith, h.free_lines, a.0, limit_is e f); free_stamps = omega (arith, h.free_stamps, a.1, stamp_is e f r) }
+
+pub run_events_leads : (k : ℕ) (f : MatchState) → Consistent f → Enough f → Leads f (run_events k f)
+run_events_leads zero f s h = subst (Leads f) (sym (run_events_zero f)) at_end
+run_events_leads (suc k) f s h = go (next_event f) refl (fits_next f s.queues) (run_events_leads k)
+  where
+    go : (m : Option Event) → next_event f ≡ m → Next? m f → ((f : MatchState) → Consistent f → Enough f → Leads f (run_events k f)) → Leads f (run_events (suc k) f)
+    go None n _ ih = subst (Leads f) (sym (run_events_next k f None n)) at_end
+    go (Some e) n x ih =
+        let w = weight_falls e f n in
+        let r = roomy_next e f x.1 w h in
+        subst (Leads f) (sym (run_events_next k f (Some e) n)) (then e x r (ih (apply e f) (consistent_apply e f x.0 r s) (enough_next e f x.1 w h)))
+
+pub run_to_rest_leads : (f : MatchState) → Consistent f → Enough f → Leads f (run_to_rest f)
+unfolding run_to_rest
+run_to_rest_leads f s h = run_events_leads (weight f) f s h
+
+-- all comes to rest
+run_events_ends : (k : ℕ) (f : MatchState) → weight f ≤ k → next_event (run_events k f) ≡ None
+run_events_ends zero f w = go (next_event f) refl
+  where
+    go : (m : Option Event) → next_event f ≡ m → next_event (run_events 0 f) ≡ None
+    go None n = ap next_event (run_events_zero f) ∙ n
+    go (Some e) n = absurd (omega (arith, weight_falls e f n))
+run_events_ends (suc k) f w = go (next_event f) refl (run_events_ends k)
+  where
+    go : (m : Option Event) → next_event f ≡ m → ((f : MatchState) → weight f ≤ k → next_event (run_events k f) ≡ None) → next_event (run_events (suc k) f) ≡ None
+    go None n ih = ap next_event (run_events_next k f None n) ∙ n
+    go (Some e) n ih = ap next_event (run_events_next k f (Some e) n) ∙ ih (apply e f) (omega (arith, weight_falls e f n))
+
+run_to_rest_ends : (f : MatchState) → next_event (run_to_rest f) ≡ None
+unfolding run_to_rest
+run_to_rest_ends f = run_events_ends (weight f) f (omega arith)
+
+-- at rest nothing is on its way, and no stop is ripe
+
+unripe_behind : (s : Side) (last : Option Price) (x y : Stop) → StopSided s x → StopSided s y → ranks_ahead (stop_rank_of y) (stop_rank_of x) ≡ false →
+    ripe s last x.trigger ≡ false → ripe s last y.trigger ≡ false
+unripe_behind s None x y dx dy b e = e
+unripe_behind s (Some p) x y dx dy b e =
+    no_riper s p x.trigger y.trigger x.order.turn x.order.number y.order.turn y.order.number dx.2 dy.2 e
+    (subst (λ z. ranks_ahead (record { key = stop_key z y.trigger; turn = y.order.turn; number = y.order.number })
+    (record { key = stop_key s x.trigger; turn = x.order.turn; number = x.order.number }) ≡ false) dy.0
+    (subst (λ z. ranks_ahead (stop_rank_of y) (record { key = stop_key z x.trigger; turn = x.order.turn; number = x.order.number }) ≡ false) dx.0 b))
+
+unripe_list : (s : Side) (last : Option Price) (l : List Stop) → Sorted stop_rank_of l → AllByRecursion (StopSided s) l →
+    if_ripe s last (waiting_stop (option_map Waiting (slice_get l 0))) ≡ None → AllByRecursion (λ (x : Stop). ripe s last x.trigger ≡ false) l
+unripe_list s last [] h d e = tt
+unripe_list s last (x ∷ l) h d e = let u = go (ripe s last x.trigger) refl e in (u, behind l h.0 d.1 u)
+  where
+    go : (b : Bool) → ripe s last x.trigger ≡ b → cond b (Some x) None ≡ None → ripe s last x.trigger ≡ false
+    go true k z = let u : ◌≡◌ {A = ℕ} 0 1 = cc in absurd (omega arith)
+    go false k z = k
+
+    behind : (l : List Stop) → AllByRecursion (λ y. ranks_ahead (stop_rank_of y) (stop_rank_of x) ≡ false) l → AllByRecursion (StopSided s) l → ripe s last x.trigger ≡ false →
+        AllByRecursion (λ (x : Stop). ripe s last x.trigger ≡ false) l
+    behind [] b c u = tt
+    behind (y ∷ l) b c u = (unripe_behind s last x y d.0 c.0 b.0 u, behind l b.1 c.1 u)
+
+none_sooner : (a b : Option Stop) → trigger_event (lower_turn a b) ≡ None → (a ≡ None) × (b ≡ None)
+none_sooner None None e = (refl, refl)
+none_sooner (Some x) None e = let u : ◌≡◌ {A = ℕ} 0 1 = cc in absurd (omega arith)
+none_sooner None (Some y) e = let u : ◌≡◌ {A = ℕ} 0 1 = cc in absurd (omega arith)
+none_sooner (Some x) (Some y) e = go (ltb y.order.turn x.order.turn) e
+  where
+    go : (b : Bool) → trigger_event (cond b (Some (Sell, y)) (Some (Buy, x))) ≡ None → (Some x ≡ None) × (Some y ≡ None)
+    go true e = let u : ◌≡◌ {A = ℕ} 0 1 = cc in absurd (omega arith)
+    go false e = let u : ◌≡◌ {A = ℕ} 0 1 = cc in absurd (omega arith)
+
+pub record Quiescent (f : MatchState) : Type 0 where
+  pub consistent : Consistent f
+  pub idle : f.incoming ≡ None
+  pub unripe : Unripe f.session.last_price f.queues
+
+quiescent_rest : (f : MatchState) → Consistent f → next_event f ≡ None → Quiescent f
+quiescent_rest f s e = go f.incoming refl e
+  where
+    go : (m : Option Order) → f.incoming ≡ m → next_given m f ≡ None → Quiescent f
+    go (Some o) h k = absurd (let z : ◌≡◌ {A = ℕ} 0 1 = cc in omega arith)
+    go None h k =
+        let u = none_sooner (if_ripe Buy f.session.last_price (first_stop Buy f.queues)) (if_ripe Sell f.session.last_price (first_stop Sell f.queues)) k in
+        record {
+          consistent = s;
+          idle = h;
+          unripe = elim [
+            | Buy ↦ unripe_list Buy f.session.last_price f.queues.waits.buy (s.queues.stops_sorted Buy) (s.queues.stops_sided Buy) u.0
+            | Sell ↦ unripe_list Sell f.session.last_price f.queues.waits.sell (s.queues.stops_sorted Sell) (s.queues.stops_sided Sell) u.1
+          ];
+        }
+
+pub quiescent_run_to_rest : (f : MatchState) → Consistent f → Enough f → Quiescent (run_to_rest f)
+quiescent_run_to_rest f s h = quiescent_rest (run_to_rest f) (leads_consistent (run_to_rest_leads f s h) s) (run_to_rest_ends f)

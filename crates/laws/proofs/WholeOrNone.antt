@@ -1,0 +1,207 @@
+-- An entry that wants all trades whole or not at all, one with a minimum at least that or not at all; and what reach means, in every state of a run.
+use Rattle.std.proofs.Common.{◌≡◌, ℕ, ◌+◌, ◌≤◌, Bool, true, false, cond, ◌&&◌, ◌||◌, eqb, ltb, ◌++◌, Some, None, Ok, Err, Option, Result, sym, refl, ap, ◌∙◌, subst, inl, inr, arith}
+use Rattle.std.proofs.lemmas.Bool.{cond_both, cond-true, both_ways, or_parts, ltb-false, eq-eqb}
+use Rattle.orders.specs.declared.side.Validity.{Validity}
+use Rattle.orders.specs.declared.side.Validity.TheVariants.{Day as ForDay, Gtc, Ioc, Fok}
+use Rattle.orders.specs.declared.price.Price.{Price}
+use Rattle.orders.specs.declared.order.Order.{Order}
+use Rattle.orders.specs.declared.row.OrderRow.{OrderRow}
+use Rattle.orders.specs.Sides.{opposite, is_immediate}
+use Rattle.books.specs.Model.{Queues, at}
+use Rattle.tapes.specs.declared.cause.Cause.{Cause}
+use Rattle.tapes.specs.declared.cause.Cause.TheVariants.{ShortReach}
+use Rattle.tapes.specs.Logs.{Log}
+use Rattle.forms.specs.declared.form.EntryForm.{EntryForm}
+use Rattle.forms.specs.declared.form.Form.TheVariants.{Entry}
+use Rattle.forms.specs.declared.refusal.Refusal.{Refusal}
+use Rattle.forms.specs.declared.refusal.Refusal.TheVariants.{Barred, WrongDay}
+use Rattle.matching.specs.declared.new_order.OrderType.{OrderType}
+use Rattle.matching.specs.declared.new_order.OrderType.TheVariants.{Limit, Market, StopLimit}
+use Rattle.matching.specs.declared.new_order.NewOrder.{NewOrder}
+use Rattle.matching.specs.Model.{MatchState, Event, accepts, accepts_and_cancels, accepts_unmatched, apply}
+use Rattle.matching.specs.Running.{total, first_order, run_to_rest}
+use Rattle.matching.specs.Reach.{reach}
+use Rattle.matching.specs.Entering.{entered_order, all_or_none, falls_short, accepts_or_cancels, market_arrival, arrival_as, enter}
+use Rattle.validation.specs.Cells.{and_then, blanks_first}
+use Rattle.validation.specs.Combinations.{is_stop, disclosed_barred, barred}
+use Rattle.validation.specs.Entries.{wrong_blank, typed_entry, if_allowed, read_entry}
+use Rattle.venue.specs.declared.day.Day.{Day}
+use Rattle.venue.specs.declared.day.Day.TheVariants.{Open, Closed}
+use Rattle.venue.specs.Steps.{answered, after_answer, entry_answer}
+use Rattle.venue.specs.Days.{State, between_steps, set_up, at_least_1, answer_on, step_on}
+use Rattle.laws.specs.Accounts.{quantity_of, traded_lots, cancelled_lots}
+use Rattle.laws.specs.Tally.{Tally, starting}
+use Rattle.laws.specs.Runs.{session_of, after}
+use Rattle.laws.specs.WithinRoom.{state_between_steps, event_lines}
+use Rattle.laws.specs.Reaching.{ReachMeans, Filled, AlwaysFilled}
+use Rattle.laws.proofs.RowsInBounds.{order_from_row}
+use Rattle.laws.proofs.EventsApply.{MayApply}
+use Rattle.laws.proofs.LinesAndStamps.{tape, tape_is}
+use Rattle.laws.proofs.RunsToRest.{consistent_apply, Quiescent, quiescent_run_to_rest, run_to_rest_leads}
+use Rattle.laws.proofs.EntryArrives.{Proper, fits_arrival}
+use Rattle.laws.proofs.RoomSuffices.{Supplied, Begins, roomy_begin, enough_begin, begins_arrival}
+use Rattle.laws.proofs.ValidatedRanges.{InOk, ok_then, any_ok}
+use Rattle.laws.proofs.EachForm.{EntryGiven, entry_given}
+use Rattle.laws.proofs.WholeRuns.{quiescent_after, quiescent_set_up, agrees_set_up}
+use Rattle.laws.proofs.ReachFalls.{reach_endless}
+use Rattle.laws.proofs.TradesReach.{leads_more, leads_quantity, early_stands, traded_on, run_to_rest_trades}
+
+-- what is not barred
+
+pub record OpenTerms (a : NewOrder) : Type 0 where
+  pub stop : (is_stop a.order_type && (is_immediate a.validity || ltb 0 a.minimum)) ≡ false
+  pub least : a.minimum ≤ a.quantity
+
+terms_ok : (a : NewOrder) → InOk OpenTerms (if_allowed a)
+terms_ok a = cond_both (barred a) (Err Barred) (Ok a) (InOk OpenTerms) (λ _. tt)
+    (λ e. let b = or_parts (is_stop a.order_type && (is_immediate a.validity || ltb 0 a.minimum))
+    ((is_immediate a.validity && ltb 0 a.disclosed) || (ltb a.quantity a.minimum || disclosed_barred a.quantity a.disclosed)) e in
+    let c = or_parts (is_immediate a.validity && ltb 0 a.disclosed) (ltb a.quantity a.minimum || disclosed_barred a.quantity a.disclosed) b.1 in
+    let d = or_parts (ltb a.quantity a.minimum) (disclosed_barred a.quantity a.disclosed) c.1 in
+    record { stop = b.0; least = ltb-false a.quantity a.minimum d.0 })
+
+entry_terms : (form : EntryForm) → InOk OpenTerms (read_entry form)
+entry_terms form = go (wrong_blank form)
+  where
+    go : (m : Option ℕ) → InOk OpenTerms (blanks_first m (and_then (typed_entry form) if_allowed))
+    go None = ok_then (λ _. Unit {0}) OpenTerms (typed_entry form) if_allowed (any_ok (typed_entry form)) (λ a _. terms_ok a)
+    go (Some cell) = tt
+
+-- an order that wants all never waits
+wants_fleeting : (v : Validity) → all_or_none v ≡ true → is_immediate v ≡ true
+wants_fleeting ForDay e = e
+wants_fleeting Gtc e = e
+wants_fleeting Ioc e = refl
+wants_fleeting Fok e = refl
+
+module _ (a : NewOrder) (f : MatchState) (p : Proper a) (u : OpenTerms a) (s : Supplied f) (c : Quiescent f) where
+  abbrev EndsFilled : Event → Type 0
+  EndsFilled e = Begins e → MayApply e f → Filled a (traded_on f.session.next_stamp (run_to_rest (apply e f)))
+
+  -- nothing was traded under a number that is not drawn yet
+  none_yet : traded_on f.session.next_stamp f ≡ 0
+  none_yet = omega (arith, c.consistent.counts.accounts f.session.next_stamp, c.consistent.counts.unborn f.session.next_stamp (omega arith))
+
+  -- lots are accounted for at the step's end
+  upper : (e : Event) (b : Begins e) (fit : MayApply e f) →
+      traded_on f.session.next_stamp (run_to_rest (apply e f)) + total (cancelled_lots f.session.next_stamp) (event_lines e ++ tape f) ≤ quantity_of f.session.next_stamp (event_lines e ++ tape f)
+  upper e b fit =
+      let n : ℕ = f.session.next_stamp in
+      let room = roomy_begin e f b fit s in
+      let enough = enough_begin e f b fit s in
+      let consistent = consistent_apply e f fit room c.consistent in
+      let leads = run_to_rest_leads (apply e f) consistent enough in
+      let t : total (cancelled_lots n) (tape (apply e f)) ≡ total (cancelled_lots n) (event_lines e ++ tape f) = ap (total (cancelled_lots n)) (tape_is e f room) in
+      let q : quantity_of n (tape (apply e f)) ≡ quantity_of n (event_lines e ++ tape f) = ap (quantity_of n) (tape_is e f room) in
+      omega (arith, leads_more (cancelled_lots n) leads, leads_quantity n leads, (quiescent_run_to_rest (apply e f) consistent enough).consistent.counts.accounts n)
+
+  whole : (price : Price) → (entered_order a price f.session.next_stamp).open_lots ≡ a.quantity
+  whole price = ap (λ (r : OrderRow). r.open_lots) (order_from_row a price f.session.next_stamp p.allowed)
+
+  at_number : (lots old : ℕ) → cond (eqb f.session.next_stamp f.session.next_stamp) lots old ≡ lots
+  at_number lots old = cond-true (eqb f.session.next_stamp f.session.next_stamp) lots old (eq-eqb f.session.next_stamp f.session.next_stamp refl)
+
+  nothing : (lots : ℕ) → lots ≡ 0 → Filled a lots
+  nothing lots e = (λ _. inl e, inl e)
+
+  filled_accepts_and_cancels : (cause : Cause) (price : Price) → EndsFilled (accepts_and_cancels cause (entered_order a price f.session.next_stamp))
+  filled_accepts_and_cancels cause price b fit =
+      let n : ℕ = f.session.next_stamp in
+      let o : Order = entered_order a price n in
+      nothing (traded_on n (run_to_rest (apply (accepts_and_cancels cause o) f))) (omega (arith, upper (accepts_and_cancels cause o) b fit, at_number o.open_lots 0, at_number o.quantity (quantity_of n (tape f))))
+
+  filled_accepts_unmatched : EndsFilled (accepts_unmatched f.session.next_stamp a.quantity)
+  filled_accepts_unmatched b fit =
+      let n : ℕ = f.session.next_stamp in
+      nothing (traded_on n (run_to_rest (apply (accepts_unmatched n a.quantity) f))) (omega
+      (arith, upper (accepts_unmatched n a.quantity) b fit, at_number a.quantity 0, at_number a.quantity (quantity_of n (tape f))))
+
+  filled_accepts : (price : Price) → falls_short a (entered_order a price f.session.next_stamp) f.queues ≡ false → EndsFilled (accepts (entered_order a price f.session.next_stamp))
+  filled_accepts price e b fit =
+      let n : ℕ = f.session.next_stamp in
+      let o : Order = entered_order a price n in
+      let ev : Event = accepts o in
+      let R : ℕ = reach o (at (opposite o.side) f.queues.stands) in
+      let room = roomy_begin ev f b fit s in
+      let k = or_parts (ltb R a.minimum) (all_or_none a.validity && ltb R a.quantity) e in
+      let least = ltb-false R a.minimum k.0 in
+      let at_least_lem = run_to_rest_trades (apply ev f) o (consistent_apply ev f fit room c.consistent) (enough_begin ev f b fit s) refl in
+      let now : traded_on n (apply ev f) ≡ 0 + traded_on n f = ap (total (traded_lots n)) (tape_is ev f room) in
+      let top = upper ev b fit in
+      let q = at_number o.quantity (quantity_of n (tape f)) in
+      let w = whole price in
+      let lots : ℕ = traded_on n (run_to_rest (apply ev f)) in (
+        λ all. inr (whole_of (all_or_none a.validity) all k.1 (λ r. (let z : a.quantity ≤ R = r in let y : lots ≡ a.quantity = omega
+            (arith, none_yet) in y))),
+        inr (let z : a.minimum ≤ lots = omega (arith, u.least) in z),
+      )
+    where
+      whole_of : {A : Type 0} {R Q : ℕ} (v : Bool) → v ≡ true → (v && ltb R Q) ≡ false → (Q ≤ R → A) → A
+      whole_of {A} {R} {Q} true e k next = next (ltb-false R Q k)
+      whole_of {A} {R} {Q} false e k next = absurd (both_ways false refl e)
+
+  filled_judged : (price : Price) → EndsFilled (accepts_or_cancels a (entered_order a price f.session.next_stamp) f.queues)
+  filled_judged price =
+      let o : Order = entered_order a price f.session.next_stamp in
+      cond_both (falls_short a o f.queues) (accepts_and_cancels ShortReach o) (accepts o) EndsFilled (λ _. filled_accepts_and_cancels ShortReach price) (λ e. filled_accepts price e)
+
+  filled_stop : is_stop a.order_type ≡ true → (lots : ℕ) → Filled a lots
+  filled_stop e lots =
+      let k = plain (is_stop a.order_type) (is_immediate a.validity) (ltb 0 a.minimum) e u.stop in
+      ((λ all. absurd (both_ways (is_immediate a.validity) k.0 (wants_fleeting a.validity all))), inr (omega (arith, ltb-false 0 a.minimum k.1)))
+    where
+      plain : (x y z : Bool) → x ≡ true → (x && (y || z)) ≡ false → (y ≡ false) × (z ≡ false)
+      plain true y z e h = or_parts y z h
+      plain false y z e h = absurd (both_ways false refl e)
+
+  filled_kind : (k : OrderType) → a.order_type ≡ k → EndsFilled (arrival_as k a f.session.next_stamp f.queues)
+  filled_kind (Limit price) e = filled_judged price
+  filled_kind Market e = go (first_order (opposite a.side) f.queues)
+    where
+      go : (m : Option Order) → EndsFilled (market_arrival a f.session.next_stamp m f.queues)
+      go None = filled_accepts_unmatched
+      go (Some r) = filled_judged r.price
+  filled_kind (StopLimit limit trigger) e = λ _ _. filled_stop (ap is_stop e) _
+
+  pub filled_enter : Filled a (traded_on f.session.next_stamp (enter a f))
+  filled_enter = filled_kind a.order_type refl (begins_arrival a f.session.next_stamp f.queues) (fits_arrival a f p c)
+
+-- in every state of a run
+
+filled_told : (form : EntryForm) (f : MatchState) (a : NewOrder) (r : Result NewOrder Refusal) → Quiescent f → InOk (EntryGiven form f) r → OpenTerms a →
+    read_entry form ≡ Ok a → answered r ≡ Ok tt → Filled a (traded_on f.session.next_stamp (after_answer enter r f))
+filled_told form f a (Ok b) c h u e k =
+    let z : b ≡ a = same b a (sym h.2 ∙ e) in
+    subst (λ (x : NewOrder). Filled a (traded_on f.session.next_stamp (enter x f))) (sym z) (filled_enter a f (subst Proper z h.0) u h.1 c)
+  where
+    same : (x y : NewOrder) → ◌≡◌ {A = Result NewOrder Refusal} (Ok x) (Ok y) → x ≡ y
+    same x y e = cc
+filled_told form f a (Err x) c h u e k = let z : ◌≡◌ {A = ℕ} 0 1 = cc in absurd (omega arith)
+
+filled_on : (d : Day) (form : EntryForm) (q : Queues) (r : Log) (a : NewOrder) → Quiescent (between_steps q r (session_of d)) → OpenTerms a → read_entry form ≡ Ok a →
+    answer_on d (Entry form) q r ≡ Ok tt → Filled a (total (traded_lots (session_of d).next_stamp) (step_on d (Entry form) q r).tape.lines)
+filled_on (Open o) form q r a c u e k =
+    let f : MatchState = between_steps q r o.session in
+    filled_told form f a (entry_answer form f) c (entry_given form f) u e k
+filled_on (Closed o) form q r a c u e k = absurd (never (read_entry form) k)
+  where
+    never : (x : Result NewOrder Refusal) → ◌≡◌ {A = Result (Unit {0}) Refusal} (and_then {A = NewOrder} {B = Unit {0}} x (λ _. Err WrongDay)) (Ok tt) → ⊥
+    never (Ok x) z = let y : ◌≡◌ {A = ℕ} 0 1 = cc in omega arith
+    never (Err x) z = let y : ◌≡◌ {A = ℕ} 0 1 = cc in omega arith
+
+pub always_filled : AlwaysFilled
+always_filled day stamp q limit forms form a e k =
+    let z : State = set_up day stamp q limit in
+    let t : Tally = starting (at_least_1 stamp) in
+    let s : State = after forms z in
+    let h = quiescent_after forms z t (quiescent_set_up day stamp q limit) (agrees_set_up day stamp q limit) in
+    filled_on s.day form s.queues s.tape a h.0 (subst (InOk OpenTerms) e (entry_terms form)) e k
+
+pub reach_means : ReachMeans
+reach_means day stamp q limit forms o trades m =
+    let z : State = set_up day stamp q limit in
+    let t : Tally = starting (at_least_1 stamp) in
+    let f : MatchState = state_between_steps (after forms z) in
+    let h = quiescent_after forms z t (quiescent_set_up day stamp q limit) (agrees_set_up day stamp q limit) in
+    let y = opposite o.side in
+    reach_endless trades f.session.next_stamp o (at (opposite o.side) f.queues.stands) (h.0.consistent.queues.sorted y) (h.0.consistent.queues.sided y) (early_stands y f h.0.consistent.early) m

@@ -1,0 +1,151 @@
+-- Whole runs: the laws hold after setting up and after every step.
+use Rattle.std.proofs.Common.{◌≡◌, ℕ, ◌+◌, ◌-◌, ◌≤◌, List, [], ◌∷◌, ◌++◌, length, take, None, Ok, Err, Option, Result, sym, refl, ap, ◌∙◌, subst, le_refl, arith, length-append}
+use Rattle.std.proofs.lemmas.List.{take_all, take-append-le}
+use Rattle.orders.specs.declared.side.Side.TheVariants.{Buy, Sell}
+use Rattle.orders.specs.declared.order.Order.{Order}
+use Rattle.books.specs.declared.queue.Queue.TheVariants.{Orders, Stops}
+use Rattle.books.specs.declared.queue.Queue.{Queue}
+use Rattle.books.specs.Model.{Queues, count, capacity, cleared}
+use Rattle.tapes.specs.declared.line.Line.{Line}
+use Rattle.tapes.specs.Logs.{Log}
+use Rattle.forms.specs.declared.form.Form.{Form}
+use Rattle.forms.specs.declared.form.Form.TheVariants.{Entry, Change, Cancel, MassCancel, Closing, Opening}
+use Rattle.forms.specs.declared.refusal.Refusal.{Refusal}
+use Rattle.matching.specs.Model.{MatchState}
+use Rattle.venue.specs.declared.day.Day.{Day}
+use Rattle.venue.specs.declared.day.Day.TheVariants.{Open, Closed}
+use Rattle.venue.specs.Rooms.{lines_free, needed}
+use Rattle.venue.specs.Steps.{opening_result, cancel_day_orders, answered}
+use Rattle.venue.specs.Days.{State, between_steps, at_least_1, set_up, after_closing, after_opening, answer_on, step_on, answer, step}
+use Rattle.laws.specs.Tally.{Tally, starting}
+use Rattle.laws.specs.Fair.{FairLines}
+use Rattle.laws.specs.Runs.{session_of, Lawful, Throughout, request, step_lines, tally_fed, tallied, FairThroughout, after, tally_after, HoldsAfter}
+use Rattle.laws.specs.WithinRoom.{state_between_steps, AlwaysWithinRoom}
+use Rattle.laws.proofs.LinesAndStamps.{tape}
+use Rattle.laws.proofs.RunsToRest.{Quiescent}
+use Rattle.laws.proofs.TallyAgrees.{TallyAgrees}
+use Rattle.laws.proofs.ValidatedRanges.{InOk}
+use Rattle.laws.proofs.EachForm.{Ends, ends_here, ends_entry, ends_change, ends_cancel, ends_mass, ends_daily, lines_ok, spare_from}
+
+nothing_incoming : (g : MatchState) → g.incoming ≡ None → g ≡ between_steps g.queues g.tape g.session
+nothing_incoming g e = ap (λ (h : Option Order). with_incoming h) e
+  where
+    with_incoming : Option Order → MatchState
+    with_incoming h = record { queues = g.queues; incoming = h; tape = g.tape; session = g.session }
+
+idle_ends : (form : Form) (t : Tally) (f : MatchState) (r : Result (Unit {0}) Refusal) (g : MatchState) → Ends form t f r g →
+    Ends form t f r (between_steps g.queues g.tape g.session)
+idle_ends form t f r g e = subst (Ends form t f r) (nothing_incoming g e.quiescent.idle) e
+
+ends_closing : (r : Result (Unit {0}) Refusal) (d : ℕ) (f : MatchState) (t : Tally) → InOk (λ _. length (tape f) + needed f.queues ≤ f.tape.limit) r → Quiescent f →
+    TallyAgrees t f → Ends Closing t f r (state_between_steps (after_closing r d f))
+ends_closing (Ok x) d f t h c m = idle_ends Closing t f (Ok tt) (cancel_day_orders f) (ends_daily f t (spare_from f h) c m)
+ends_closing (Err e) d f t h c m = idle_ends Closing t f (Err e) f (ends_here Closing t f (Err e) c m)
+
+ends_opening : (form : _) (r : Result ℕ Refusal) (d : ℕ) (f : MatchState) (t : Tally) → Quiescent f → TallyAgrees t f →
+    Ends (Opening form) t f (answered r) (state_between_steps (after_opening r d f))
+ends_opening form (Ok x) d f t c m = idle_ends (Opening form) t f (Ok tt) f (ends_here (Opening form) t f (Ok tt) c m)
+ends_opening form (Err e) d f t c m = idle_ends (Opening form) t f (Err e) f (ends_here (Opening form) t f (Err e) c m)
+
+ends_on : (d : Day) (form : Form) (q : Queues) (r : Log) (t : Tally) → Quiescent (between_steps q r (session_of d)) → TallyAgrees t (between_steps q r (session_of d)) →
+    Ends form t (between_steps q r (session_of d)) (answer_on d form q r) (state_between_steps (step_on d form q r))
+ends_on (Open o) (Entry form) q r t c m = idle_ends (Entry form) t _ _ _ (ends_entry form (between_steps q r o.session) t c m)
+ends_on (Open o) (Change form) q r t c m = idle_ends (Change form) t _ _ _ (ends_change form (between_steps q r o.session) t c m)
+ends_on (Open o) (Cancel form) q r t c m = idle_ends (Cancel form) t _ _ _ (ends_cancel form (between_steps q r o.session) t c m)
+ends_on (Open o) (MassCancel form) q r t c m = idle_ends (MassCancel form) t _ _ _ (ends_mass form (between_steps q r o.session) t c m)
+ends_on (Open o) Closing q r t c m = ends_closing (lines_free q r) o.day (between_steps q r o.session) t (lines_ok (between_steps q r o.session)) c m
+ends_on (Open o) (Opening form) q r t c m = ends_here (Opening form) t (between_steps q r o.session) _ c m
+ends_on (Closed o) (Entry form) q r t c m = ends_here (Entry form) t (between_steps q r o.session) _ c m
+ends_on (Closed o) (Change form) q r t c m = ends_here (Change form) t (between_steps q r o.session) _ c m
+ends_on (Closed o) (Cancel form) q r t c m = ends_here (Cancel form) t (between_steps q r o.session) _ c m
+ends_on (Closed o) (MassCancel form) q r t c m = ends_here (MassCancel form) t (between_steps q r o.session) _ c m
+ends_on (Closed o) Closing q r t c m = ends_here Closing t (between_steps q r o.session) _ c m
+ends_on (Closed o) (Opening form) q r t c m = ends_opening form (opening_result form o.day q r) o.day (between_steps q r o.session) t c m
+
+pub ends_step : (form : Form) (s : State) (t : Tally) → Quiescent (state_between_steps s) → TallyAgrees t (state_between_steps s) → Ends form t (state_between_steps s) (answer form s) (state_between_steps (step form s))
+ends_step form s t c m = ends_on s.day form s.queues s.tape t c m
+
+-- what was written is what was said
+taken_front : (a b : List Line) → take (length (a ++ b) - length b) (a ++ b) ≡ a
+taken_front a b =
+    let n : length (a ++ b) - length b ≡ length a = omega (arith, length-append a b) in
+    rw n (take-append-le (length a) a b (le_refl (length a)) ∙ take_all (length a) a (le_refl (length a)))
+
+pub written_is : (s s' : State) (said : List Line) → s'.tape.lines ≡ said ++ s.tape.lines → step_lines s s' ≡ said
+written_is s s' said e = subst (λ l. take (length l - length s.tape.lines) l ≡ said) (sym e) (taken_front said s.tape.lines)
+
+pub matches_step : (form : Form) (s : State) (t : Tally) → Quiescent (state_between_steps s) → TallyAgrees t (state_between_steps s) → TallyAgrees (tallied form s t) (state_between_steps (step form s))
+matches_step form s t c m =
+    let k = ends_step form s t c m in
+    subst (λ l. TallyAgrees (tally_fed (answer form s) (request form) l t) (state_between_steps (step form s))) (sym (written_is s (step form s) k.said k.tape_grew)) k.matches
+
+pub lawful_quiescent : (s : State) → Quiescent (state_between_steps s) → Lawful s
+lawful_quiescent s c = record { balanced = λ n. omega (arith, c.consistent.counts.accounts n); uncrossed = c.consistent.queues.uncrossed; unripe = c.unripe }
+
+pub always_lawful : (forms : List Form) (s : State) (t : Tally) → Quiescent (state_between_steps s) → TallyAgrees t (state_between_steps s) → Throughout Lawful forms s
+always_lawful [] s t c m = lawful_quiescent s c
+always_lawful (form ∷ forms) s t c m = (lawful_quiescent s c, always_lawful forms (step form s) (tallied form s t) (ends_step form s t c m).quiescent (matches_step form s t c m))
+
+pub always_fair : (forms : List Form) (s : State) (t : Tally) → Quiescent (state_between_steps s) → TallyAgrees t (state_between_steps s) → FairThroughout forms s t
+always_fair [] s t c m = tt
+always_fair (form ∷ forms) s t c m =
+    let k = ends_step form s t c m in (
+      subst (λ l. FairLines (request form) l t) (sym (written_is s (step form s) k.said k.tape_grew)) k.fair,
+      always_fair forms (step form s)
+          (tallied form s t) k.quiescent (matches_step form s t c m),
+    )
+
+-- setting up
+
+empty_bounded : (q : Queues) (n : Queue) → count n (cleared q) ≤ capacity n (cleared q)
+empty_bounded q (Orders Buy) = omega arith
+empty_bounded q (Orders Sell) = omega arith
+empty_bounded q (Stops Buy) = omega arith
+empty_bounded q (Stops Sell) = omega arith
+
+pub quiescent_set_up : (day stamp : ℕ) (q : Queues) (limit : ℕ) → Quiescent (state_between_steps (set_up day stamp q limit))
+quiescent_set_up day stamp q limit = record {
+  consistent = record {
+    queues = record {
+      bounded = empty_bounded q;
+      sorted = elim [ Buy ↦ tt | Sell ↦ tt ];
+      stops_sorted = elim [ Buy ↦ tt | Sell ↦ tt ];
+      sided = elim [ Buy ↦ tt | Sell ↦ tt ];
+      stops_sided = elim [ Buy ↦ tt | Sell ↦ tt ];
+      uncrossed = tt;
+    };
+    counts = record { accounts = λ n. refl; unborn = λ n _. refl; single = λ n. omega arith; known = refl };
+    ready = tt;
+    early = refl;
+  };
+  idle = refl;
+  unripe = elim [ Buy ↦ tt | Sell ↦ tt ];
+}
+
+pub agrees_set_up : (day stamp : ℕ) (q : Queues) (limit : ℕ) → TallyAgrees (starting (at_least_1 stamp)) (state_between_steps (set_up day stamp q limit))
+agrees_set_up day stamp q limit = record { sums = λ g. refl; turns = refl }
+
+-- after any list of steps
+
+pub quiescent_after : (forms : List Form) (s : State) (t : Tally) → Quiescent (state_between_steps s) → TallyAgrees t (state_between_steps s) →
+    Quiescent (state_between_steps (after forms s)) × TallyAgrees (tally_after forms s t) (state_between_steps (after forms s))
+quiescent_after [] s t c m = (c, m)
+quiescent_after (form ∷ forms) s t c m = quiescent_after forms (step form s) (tallied form s t) (ends_step form s t c m).quiescent (matches_step form s t c m)
+
+pub holds_after : (form : Form) (s : State) → HoldsAfter form s
+holds_after form s day stamp q limit forms e =
+    let z : State = set_up day stamp q limit in
+    let t : Tally = starting (at_least_1 stamp) in
+    subst (λ (s : State). Lawful (step form s) × FairLines (request form) (step_lines s (step form s)) (tally_after forms z t)) (sym e)
+    (next (after forms z) (tally_after forms z t) (quiescent_after forms z t (quiescent_set_up day stamp q limit) (agrees_set_up day stamp q limit)))
+  where
+    next : (s : State) (t : Tally) → Quiescent (state_between_steps s) × TallyAgrees t (state_between_steps s) → Lawful (step form s) × FairLines (request form) (step_lines s (step form s)) t
+    next s t h = let k = ends_step form s t h.0 h.1 in
+        (lawful_quiescent (step form s) k.quiescent, subst (λ l. FairLines (request form) l t) (sym (written_is s (step form s) k.said k.tape_grew)) k.fair)
+
+pub always_within_room : AlwaysWithinRoom
+always_within_room day stamp q limit forms form =
+    let z : State = set_up day stamp q limit in
+    let t : Tally = starting (at_least_1 stamp) in
+    let h = quiescent_after forms z t (quiescent_set_up day stamp q limit) (agrees_set_up day stamp q limit) in
+    (ends_step form (after forms z) (tally_after forms z t) h.0 h.1).trace

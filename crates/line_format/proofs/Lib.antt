@@ -1,0 +1,2 @@
+mod WordByWord
+pub mod LinesFitRows

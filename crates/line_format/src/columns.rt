@@ -1,0 +1,101 @@
+// The columns of each letter: the cells of its rows, by name.
+ghost use Rattle.std.specs.Prelude.{◌≡◌, ◌<◌, map, position, IfSome};
+ghost use Rattle.std.specs.Str.{bytes_eq};
+ghost use Rattle.line_format.specs.Columns.{columns, column_of, letter_word};
+
+use sheets::letter::Letter;
+
+// How the value of a cell is written. By kind, not by a closure: the definitions name each kind.
+#[derive(Clone, Copy)]
+pub(crate) enum CellKind {
+    Number,
+    Side,
+    OneByte,
+    Validity,
+    Price,
+}
+
+// A cell of a letter's rows: its place, from 0, and how it is written.
+#[derive(Clone, Copy)]
+pub(crate) struct Column {
+    pub(crate) index: usize,
+    pub(crate) kind: CellKind,
+}
+
+const ENTRY: [(&[u8], CellKind); 12] = [
+    (b"firm", CellKind::Number),
+    (b"client", CellKind::Number),
+    (b"side", CellKind::Side),
+    (b"type", CellKind::OneByte),
+    (b"validity", CellKind::Validity),
+    (b"price", CellKind::Price),
+    (b"trigger", CellKind::Price),
+    (b"quantity", CellKind::Number),
+    (b"disclosed", CellKind::Number),
+    (b"minimum", CellKind::Number),
+    (b"investor", CellKind::Number),
+    (b"tag", CellKind::Number),
+];
+
+const CHANGE: [(&[u8], CellKind); 7] = [
+    (b"firm", CellKind::Number),
+    (b"client", CellKind::Number),
+    (b"number", CellKind::Number),
+    (b"price", CellKind::Price),
+    (b"quantity", CellKind::Number),
+    (b"disclosed", CellKind::Number),
+    (b"validity", CellKind::Validity),
+];
+
+const CANCEL: [(&[u8], CellKind); 2] = [(b"firm", CellKind::Number), (b"number", CellKind::Number)];
+
+const MASS_CANCEL: [(&[u8], CellKind); 4] = [
+    (b"firm", CellKind::Number),
+    (b"side", CellKind::Side),
+    (b"tag", CellKind::Number),
+    (b"investor", CellKind::Number),
+];
+
+const OPENING: [(&[u8], CellKind); 1] = [(b"day", CellKind::Number)];
+
+// The cells of a letter's rows in their order: the name, and how the value is written.
+fn columns(letter: Letter) -> &'static [(&'static [u8], CellKind)]
+    ensures { map (λ c. (c.0.now, c.1)) result.now ≡ columns letter }
+{
+    match letter {
+        Letter::Entry => &ENTRY,
+        Letter::Change => &CHANGE,
+        Letter::Cancel => &CANCEL,
+        Letter::MassCancel => &MASS_CANCEL,
+        Letter::Closing => &[],
+        Letter::Opening => &OPENING,
+    }
+}
+
+// The place of a name among the columns.
+fn place_of(columns: &[(&[u8], CellKind)], name: &[u8]) -> Option<usize>
+    ensures { result ≡ position (λ c. bytes_eq name.now c.0.now) columns.now }
+{
+    columns.iter().position(|c| name == c.0)
+}
+
+// The column of a name.
+pub(crate) fn column_of(letter: Letter, name: &[u8]) -> Option<Column>
+    ensures answer { result ≡ column_of letter name.now }
+    ensures within { IfSome result (λ c. c.index < 12) }
+{
+    let columns = columns(letter);
+    let index = place_of(columns, name)?;
+    let kind = columns[index].1;
+    Some(Column { index, kind })
+}
+
+// The letter that a line begins with.
+pub(crate) fn letter_word(word: &[u8]) -> Option<Letter>
+    ensures { result ≡ letter_word word.now }
+{
+    match word {
+        [byte] => Letter::try_from(*byte).ok(),
+        _ => None,
+    }
+}

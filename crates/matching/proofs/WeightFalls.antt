@@ -1,0 +1,175 @@
+-- One event, then the rest: what the loops of the code stand on.
+use Rattle.std.proofs.Common.{Ok, Err, ◌≡◌, ℕ, zero, suc, ◌+◌, ◌<◌, ◌≤◌, Bool, true, false, cond, eqb, Some, None, Option, sym, refl, ap, ◌∙◌, subst, arith}
+use Rattle.std.proofs.lemmas.Bool.{cond_both, cond-true, eqb-true, eqb-false, eq-eqb}
+use Rattle.orders.specs.declared.side.Side.{Side}
+use Rattle.orders.specs.declared.side.Side.TheVariants.{Buy, Sell}
+use Rattle.orders.specs.declared.order.Order.{Order}
+use Rattle.orders.specs.declared.order.Stop.{Stop}
+use Rattle.orders.specs.declared.price.Price.{Price}
+use Rattle.orders.specs.Sides.{opposite, is_immediate}
+use Rattle.orders.specs.Lots.{order_reduced, order_refilled, within_limit, same_investor}
+use Rattle.tapes.specs.declared.cause.Cause.TheVariants.{Leftover, OwnInvestor}
+use Rattle.books.specs.declared.queue.PutError.TheVariants.{Full, Twice}
+use Rattle.books.specs.declared.queue.Queue.TheVariants.{Orders}
+use Rattle.books.specs.declared.queue.Record.TheVariants.{Standing}
+use Rattle.books.specs.Model.{Queues, put_answer, taken, PutAnswer}
+use Rattle.matching.specs.Model.{MatchState, Event, accepts, accepts_stop, accepts_and_cancels, accepts_unmatched, cancels_incoming, trades, rests, triggers, cancels_resting, amends, requeues, RestingOutcome, filled, refilled, reduced, outcome, after_trade, incoming_left, trade_lots, apply}
+use Rattle.matching.specs.Running.{next_event, next_given, first_order, first_stop, rests_or_cancels, leftover, incoming_event, ripe, if_ripe, lower_turn, trigger_event, go_on_with, run_events, parts, incoming_weight, queues_weight, weight, run_to_rest}
+use Rattle.matching.proofs.PartsFall.{parts_most, parts_least, parts_refilled}
+use Rattle.matching.proofs.WeightOfQueues.{load_taken, load_triggered, load_placed, load_put_back, load_rewritten}
+
+-- when an event is next
+abbrev pub IsNext : Event → MatchState → Type 0
+IsNext (accepts o) f = ⊥
+IsNext (accepts_stop x) f = ⊥
+IsNext (accepts_and_cancels c o) f = ⊥
+IsNext (accepts_unmatched n k) f = ⊥
+IsNext (cancels_incoming c o) f = f.incoming ≡ Some o
+IsNext (trades o r) f = (f.incoming ≡ Some o) × (first_order (opposite o.side) f.queues ≡ Some r)
+IsNext (rests o) f = f.incoming ≡ Some o
+IsNext (triggers s x) f = (f.incoming ≡ None) × (first_stop s f.queues ≡ Some x)
+IsNext (cancels_resting c n i r) f = ⊥
+IsNext (amends i o) f = ⊥
+IsNext (requeues s i o) f = ⊥
+
+abbrev pub IsNext? : Option Event → MatchState → Type 0
+IsNext? None f = Unit {0}
+IsNext? (Some e) f = IsNext e f
+
+fits_stands : (p : PutAnswer) (o : Order) (f : MatchState) → f.incoming ≡ Some o → IsNext (rests_or_cancels p o) f
+fits_stands (Ok _) o f h = h
+fits_stands (Err Full) o f h = h
+fits_stands (Err Twice) o f h = h
+
+fits_leftover : (o : Order) (f : MatchState) → f.incoming ≡ Some o → IsNext (leftover o f.queues) f
+fits_leftover o f h = cond_both (is_immediate o.validity) (cancels_incoming Leftover o) (rests_or_cancels (put_answer (Standing o) f.queues) o) (λ e. IsNext e f) (λ _. h) (λ _. fits_stands (put_answer (Standing o) f.queues) o f h)
+
+fits_meets : (o : Order) (m : Option Order) (f : MatchState) → f.incoming ≡ Some o → first_order (opposite o.side) f.queues ≡ m → IsNext (incoming_event o m f.queues) f
+fits_meets o None f h e = fits_leftover o f h
+fits_meets o (Some r) f h e =
+    cond_both (within_limit o.side o.price r.price) (cond (same_investor o r) (cancels_incoming OwnInvestor o) (trades o r)) (leftover o f.queues) (λ e. IsNext e f)
+    (λ _. cond_both (same_investor o r) (cancels_incoming OwnInvestor o) (trades o r) (λ e. IsNext e f) (λ _. h) (λ _. (h, e)))
+    (λ _. fits_leftover o f h)
+
+-- the ripe ones are the first of their queues
+if_ripe_is : (s : Side) (last : Option Price) (m : Option Stop) (x : Stop) → if_ripe s last m ≡ Some x → m ≡ Some x
+if_ripe_is s last None x e = e
+if_ripe_is s last (Some y) x e = go (ripe s last y.trigger) e
+  where
+    go : (b : Bool) → cond b (Some y) None ≡ Some x → Some y ≡ Some x
+    go true e = e
+    go false e = let z : ◌≡◌ {A = ℕ} 0 1 = cc in absurd (omega arith)
+
+fits_sooner : (f : MatchState) (a b : Option Stop) → f.incoming ≡ None → ((x : Stop) → a ≡ Some x → first_stop Buy f.queues ≡ Some x) → ((y : Stop) → b ≡ Some y → first_stop Sell f.queues ≡ Some y) → IsNext? (trigger_event (lower_turn a b)) f
+fits_sooner f None None h p q = tt
+fits_sooner f (Some x) None h p q = (h, p x refl)
+fits_sooner f None (Some y) h p q = (h, q y refl)
+fits_sooner f (Some x) (Some y) h p q = cond_both _ (Some (Sell, y)) (Some (Buy, x)) (λ m. IsNext? (trigger_event m) f) (λ _. (h, q y refl)) (λ _. (h, p x refl))
+
+fits_with : (f : MatchState) (m : Option Order) → f.incoming ≡ m → IsNext? (next_given m f) f
+fits_with f (Some o) h = fits_meets o (first_order (opposite o.side) f.queues) f h refl
+fits_with f None h =
+    fits_sooner f (if_ripe Buy f.session.last_price (first_stop Buy f.queues)) (if_ripe Sell f.session.last_price (first_stop Sell f.queues)) h
+    (λ x e. if_ripe_is Buy f.session.last_price (first_stop Buy f.queues) x e)
+    (λ y e. if_ripe_is Sell f.session.last_price (first_stop Sell f.queues) y e)
+
+pub fits_next : (f : MatchState) → IsNext? (next_event f) f
+fits_next f = fits_with f f.incoming refl
+
+held_most : (lots : ℕ) (o : Order) → incoming_weight (incoming_left lots o) ≤ 17
+held_most lots o = cond_both (eqb o.open_lots lots) None (Some (order_refilled o.turn lots o)) (λ m. incoming_weight m ≤ 17) (λ _. omega arith) (λ _. omega arith)
+
+held_none : (lots : ℕ) (o : Order) → o.open_lots ≡ lots → incoming_weight (incoming_left lots o) ≡ 0
+held_none lots o e = ap incoming_weight (cond-true (eqb o.open_lots lots) None (Some (order_refilled o.turn lots o)) (eq-eqb o.open_lots lots e))
+
+-- a trade spends one of the weight
+trade_spends : (s : Side) (stamp : ℕ) (o r : Order) (q : Queues) → first_order s q ≡ Some r → suc (queues_weight (after_trade (outcome (trade_lots o r) r) s (trade_lots o r) stamp r q) + incoming_weight (incoming_left (trade_lots o r) o)) ≤ queues_weight q + 17
+trade_spends s stamp o r q e =
+    let n : ℕ = trade_lots o r in
+    let a = held_most n o in
+    let t = load_taken s r q e in
+    let l = parts_least r in
+    let S : RestingOutcome → Type 0 = λ k. suc (queues_weight (after_trade k s n stamp r q) + incoming_weight (incoming_left n o)) ≤ queues_weight q + 17 in
+    cond_both (eqb r.open_lots n) filled (cond (eqb r.shown n) refilled reduced) S
+    (λ _. omega arith)
+    (λ w. let y = eqb-false r.open_lots n w in cond_both (eqb r.shown n) refilled reduced S
+    (λ v. let z : r.shown ≡ n = eqb-true r.shown n v in
+    let p = load_put_back (order_refilled stamp n r) (taken (Orders s) 0 q) in
+    let u : suc (parts (order_refilled stamp n r)) ≤ parts r = subst (λ k. suc (parts (order_refilled stamp k r)) ≤ parts r) z (parts_refilled stamp r (omega arith)) in
+    omega arith)
+    (λ v. let z = eqb-false r.shown n v in
+    let p = load_rewritten 0 (order_reduced n r) q in
+    let h = held_none n o (omega arith) in
+    omega arith))
+
+in_incoming_is : (m : Option Order) (o : Order) → m ≡ Some o → incoming_weight m ≡ 17
+in_incoming_is m o e = ap incoming_weight e
+
+-- each event spends one of the weight
+pub spends : (e : Event) (f : MatchState) → IsNext e f → suc (weight (apply e f)) ≤ weight f
+spends (accepts o) f h = absurd h
+spends (accepts_stop x) f h = absurd h
+spends (accepts_and_cancels c o) f h = absurd h
+spends (accepts_unmatched n k) f h = absurd h
+spends (cancels_resting c n i r) f h = absurd h
+spends (amends i o) f h = absurd h
+spends (requeues s i o) f h = absurd h
+spends (cancels_incoming c o) f h = omega (arith, in_incoming_is f.incoming o h)
+spends (trades o r) f h = omega (arith, in_incoming_is f.incoming o h.0, trade_spends (opposite o.side) f.session.next_stamp o r f.queues h.1)
+spends (rests o) f h = omega (arith, in_incoming_is f.incoming o h, load_placed o f.queues, parts_most o)
+spends (triggers s x) f h = let z : incoming_weight f.incoming ≡ 0 = ap incoming_weight h.0 in omega (arith, load_triggered s x f.queues h.1)
+
+pub run_events_next : (k : ℕ) (f : MatchState) (m : Option Event) → next_event f ≡ m → run_events (suc k) f ≡ go_on_with m (λ e. run_events k (apply e f)) f
+unfolding run_events
+run_events_next k f m n = ap (λ (m : Option Event). go_on_with m (λ e. run_events k (apply e f)) f) n
+
+pub run_events_zero : (f : MatchState) → run_events 0 f ≡ f
+unfolding run_events
+run_events_zero f = refl
+
+pub weight_falls : (e : Event) (f : MatchState) → next_event f ≡ Some e → suc (weight (apply e f)) ≤ weight f
+weight_falls e f n = spends e f (rw n at (fits_next f))
+
+-- fuel beyond the weight changes nothing
+run_events_same : (k j : ℕ) (f : MatchState) → weight f ≤ k → weight f ≤ j → run_events k f ≡ run_events j f
+run_events_same zero zero f v w = refl
+run_events_same zero (suc j) f v w = go (next_event f) refl
+  where
+    go : (m : Option Event) → next_event f ≡ m → run_events 0 f ≡ run_events (suc j) f
+    go None n = run_events_zero f ∙ sym (run_events_next j f None n)
+    go (Some e) n = absurd (omega (arith, weight_falls e f n))
+run_events_same (suc k) zero f v w = go (next_event f) refl
+  where
+    go : (m : Option Event) → next_event f ≡ m → run_events (suc k) f ≡ run_events 0 f
+    go None n = run_events_next k f None n ∙ sym (run_events_zero f)
+    go (Some e) n = absurd (omega (arith, weight_falls e f n))
+run_events_same (suc k) (suc j) f v w = go (next_event f) refl (run_events_same k j)
+  where
+    go : (m : Option Event) → next_event f ≡ m → ((f : MatchState) → weight f ≤ k → weight f ≤ j → run_events k f ≡ run_events j f) → run_events (suc k) f ≡ run_events (suc j) f
+    go None n ih = run_events_next k f None n ∙ sym (run_events_next j f None n)
+    go (Some e) n ih = let l = weight_falls e f n in run_events_next k f (Some e) n ∙ (ih (apply e f) (omega arith) (omega arith) ∙ sym (run_events_next j f (Some e) n))
+
+pub run_to_rest_next : (f : MatchState) (e : Event) → next_event f ≡ Some e → run_to_rest f ≡ run_to_rest (apply e f)
+unfolding run_to_rest
+run_to_rest_next f e n =
+    let l = weight_falls e f n in
+    run_events_same (weight f) (suc (weight f)) f (omega arith) (omega arith)
+    ∙ (run_events_next (weight f) f (Some e) n ∙ run_events_same (weight f) (weight (apply e f)) (apply e f) (omega arith) (omega arith))
+
+pub run_to_rest_end : (f : MatchState) → next_event f ≡ None → run_to_rest f ≡ f
+unfolding run_to_rest
+run_to_rest_end f n = go (weight f)
+  where
+    go : (k : ℕ) → run_events k f ≡ f
+    go zero = run_events_zero f
+    go (suc k) = run_events_next k f None n
+
+-- one turn of a loop that does the next event
+pub record Turn (f g : MatchState) : Type 0 where
+  pub same_rest : run_to_rest g ≡ run_to_rest f
+  pub weight_falls : weight g < weight f
+
+pub turn : (f g : MatchState) (e : Event) → next_event f ≡ Some e → g ≡ apply e f → Turn f g
+turn f g e n h =
+    let T : MatchState → Type 0 = λ g. Turn f g in
+    subst T (sym h) (record { same_rest = sym (run_to_rest_next f e n); weight_falls = weight_falls e f n })

@@ -1,0 +1,46 @@
+// An incoming order, and the stops that its trades make ripe, until nothing is left to do.
+ghost use Rattle.std.specs.Prelude.{◌≡◌, None};
+ghost use Rattle.matching.specs.Running.{run_to_rest};
+ghost use Rattle.matching.specs.MatchStates.{match_state};
+
+use crate::session::Session;
+use crate::stops::{next_ripe, trigger_stop};
+use crate::trading::{cancelled, first_order, rest_or_cancel, trade};
+use books::book::Book;
+use orders::order::Order;
+use tapes::cause::Cause;
+use tapes::tape::Tape;
+
+// The incoming order trades, then each ripe stop in turn does.
+pub fn run_to_rest<B: Book>(
+    book: &mut B,
+    tape: &mut Tape,
+    session: &mut Session,
+    incoming: Option<Order>,
+)
+    ensures { match_state (B.queues book.new) tape.new session.new None ≡ run_to_rest (match_state (B.queues book.old) tape.old session.old incoming) }
+{
+    let mut incoming = incoming;
+    'stops: loop {
+        'trading: while let Some(order) = incoming {
+            incoming = None;
+            let Some(first) = first_order(book, order.side.opposite()) else {
+                rest_or_cancel(book, tape, order);
+                continue 'trading;
+            };
+            if !order.may_trade_at(first.price) {
+                rest_or_cancel(book, tape, order);
+                continue 'trading;
+            }
+            if order.has_investor_of(first) {
+                tape.write(cancelled(order, Cause::OwnInvestor));
+                continue 'stops;
+            }
+            incoming = trade(book, tape, session, order, first);
+        }
+        let Some(ripe) = next_ripe(book, session.last_price) else {
+            return;
+        };
+        incoming = Some(trigger_stop(book, tape, session, ripe.0, ripe.1));
+    }
+}

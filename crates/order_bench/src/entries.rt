@@ -1,0 +1,46 @@
+// Entering the orders of a stream.
+use crate::stream::Limit;
+use books::book::Book;
+use laws::calls::step;
+use tapes::tape::Tape;
+use venue::day::Day;
+
+// One past the highest client number.
+const CLIENTS_END: u64 = 1_000_000_000;
+
+// How the client numbers of the stream go: upwards from 1, as members count, or downwards.
+#[derive(Clone, Copy)]
+pub enum Numbering {
+    Rising,
+    Falling,
+}
+
+impl Numbering {
+    // The client number of an order, by its place in the stream, from 1.
+    fn client(self, place: u64) -> u64 {
+        match self {
+            Numbering::Rising => place,
+            Numbering::Falling => CLIENTS_END.saturating_sub(place),
+        }
+    }
+}
+
+// Enters the orders behind the first `before`; answers the day that is reached, and how many were accepted.
+pub fn enter_all<B: Book>(
+    mut day: Day,
+    book: &mut B,
+    tape: &mut Tape,
+    numbering: Numbering,
+    before: usize,
+    orders: &[Limit],
+) -> (Day, u64) {
+    let mut accepted = 0_u64;
+    let mut place = before as u64;
+    for order in orders {
+        place = place.wrapping_add(1);
+        let (next, answer) = step(day, book, tape, order.form(numbering.client(place)));
+        day = next;
+        accepted = accepted.wrapping_add(u64::from(answer.is_ok()));
+    }
+    (day, accepted)
+}

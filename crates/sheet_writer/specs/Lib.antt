@@ -1,0 +1,5 @@
+pub mod CellTexts
+pub mod PackedParts
+pub mod WrittenRows
+pub mod Drafts
+pub mod WorkedSheet

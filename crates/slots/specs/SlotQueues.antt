@@ -1,0 +1,11 @@
+-- What a slot book means: four stores of 32 slots.
+use Rattle.orders.specs.declared.row.OrderRow.{OrderRow}
+use Rattle.orders.specs.declared.row.StopRow.{StopRow}
+use Rattle.books.specs.declared.stored_book.StoredBook.{StoredBook}
+use Rattle.books.specs.Model.{Queues}
+use Rattle.books.specs.StoredQueues.{stored_queues}
+use Rattle.slots.specs.declared.store.SlotStore.{SlotStore}
+use Rattle.slots.specs.SlotContents.{slot_contents}
+
+abbrev pub slot_queues : StoredBook (SlotStore OrderRow) (SlotStore StopRow) → Queues
+slot_queues = stored_queues (λ r. slot_contents r.slots) (λ r. slot_contents r.slots)

@@ -1,9 +1,0 @@
-use Rattle.std.proofs.Common.{sym, rules}
-use Rattle.strips.specs.Front.{ranked}
-use Rattle.strips.proofs.Coverage.{none_above}
-use Rattle.strips.proofs.row.lane.RankedRowLane.find.Goals as goal
-
-pub returns-then-not-may_have : goal.returns-then-not-may_have
-returns-then-not-may_have g c =
-    let s = c.args.self.now in
-    sym (none_above g.T.Numbered.num g.T.Numbered.firm g.T.Numbered.client s.seen c.args.number (search rules) (ranked s.count s.rows.now) s.known)

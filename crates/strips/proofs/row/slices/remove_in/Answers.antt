@@ -1,0 +1,13 @@
+use Rattle.std.proofs.Common.{◌-◌, take, reverse, ap, ◌∙◌, arith}
+use Rattle.std.proofs.lemmas.List.{length-take-le}
+use Rattle.books.proofs.RotatedWrites.{remove_part}
+use Rattle.strips.proofs.ReversedLists.{turned_remove}
+use Rattle.strips.proofs.row.slices.remove_in.Goals as goal
+
+pub returns : goal.returns
+returns g c =
+    let xs = c.args.rows.now in
+    let j = c.args.n - 1 - c.args.at in
+    rw c.close_up.ensures (
+    ap reverse (remove_part xs c.args.n j (omega (arith, c.requires.there)) c.requires.within)
+    ∙ turned_remove (take c.args.n xs) j c.args.at (omega (arith, c.requires.there, length-take-le c.args.n xs)))

@@ -1,6 +1,0 @@
-pub mod Words
-pub mod Columns
-pub mod Values
-pub mod Cells
-pub mod Lines
-pub mod Worked

@@ -1,0 +1,2 @@
+pub mod FormsJoin
+pub mod LineByLine

@@ -1,0 +1,17 @@
+use Rattle.std.proofs.Common.{[], ◌∷◌, ◌++◌, ap, sym, ◌∙◌}
+use Rattle.sheet_writer.specs.Drafts.{rows}
+use Rattle.text_sheets.specs.FormsOfLines.{with_read}
+use Rattle.text_sheets.proofs.FormsJoin.{all_fit, forms_join}
+use Rattle.text_sheets.proofs.sheet.add_line.Goals as goal
+
+pub returns-in-Ok-clause-answer : goal.returns-in-Ok-clause-answer
+returns-in-Ok-clause-answer c forms h =
+    let form = c.in-Ok-Some.form in
+    let read = rw c.in-Ok-Some.field-0-is at c.in-Ok-Some.ensures.answer in
+    let fit = rw c.in-Ok-Some.field-0-is at c.in-Ok-Some.ensures.form_in_bounds in
+    let answer = rw c.in-Ok.is at c.in_ok-add.ensures.0 in
+    let j = forms_join c.args.number c.args.line.now forms form (rows c.args.draft.now) h.0 answer in (
+      forms ++ form ∷ [],
+      ap (with_read c.args.number c.args.line.now forms) (sym read) ∙ j.0,
+      (c.in_ok-add.ensures.1 ∙ j.1, all_fit c.args.number c.args.line.now forms form h.1 fit),
+    )

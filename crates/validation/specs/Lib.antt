@@ -1,0 +1,5 @@
+pub mod Cells
+pub mod Combinations
+pub mod Entries
+pub mod Changes
+pub mod Removals

@@ -1,0 +1,102 @@
+// What a cell reads as, and when it is out of range.
+ghost use Rattle.std.specs.Prelude.{◌≡◌};
+ghost use Rattle.std.specs.Option.{ok_or};
+ghost use Rattle.std.specs.Result.{result_ok};
+ghost use Rattle.orders.specs.Sides.{unknown_code};
+ghost use Rattle.forms.specs.declared.refusal.Refusal.TheVariants.{WrongBlank};
+ghost use Rattle.validation.specs.Cells.{and_then, in_range, number_in, side_in, validity_in, type_of, price_in, if_filled};
+
+use forms::refusal::Refusal;
+use orders::price::Price;
+use orders::side::{Side, UnknownCode, Validity};
+use std::num::TryFromIntError;
+
+// The order types: 2, 4 and K.
+#[derive(Clone, Copy, Debug, PartialEq, Eq)]
+pub enum TypeCode {
+    Limit,
+    StopLimit,
+    Market,
+}
+
+// The lowest and the highest number that a cell takes. Not a RangeInclusive, which is not Copy.
+#[derive(Clone, Copy)]
+pub(crate) struct Bounds(u64, u64);
+
+pub(crate) const FIRMS: Bounds = Bounds(1, 65_535);
+
+pub(crate) const DAYS: Bounds = Bounds(1, 65_535);
+
+// Client numbers and order numbers.
+pub(crate) const IDENTIFIERS: Bounds = Bounds(1, 999_999_999);
+
+pub(crate) const LOTS: Bounds = Bounds(1, 1_000_000);
+
+pub(crate) const LOTS_OR_NONE: Bounds = Bounds(0, 1_000_000);
+
+pub(crate) const INVESTORS: Bounds = Bounds(0, 999_999_999_999);
+
+pub(crate) const TAGS: Bounds = Bounds(0, 255);
+
+impl Bounds {
+    // The number as the type that is wanted, if it is within the bounds.
+    pub(crate) fn read<T: Drop + TryFrom<u64, Error = TryFromIntError>>(
+        self,
+        at: u8,
+        value: u64,
+    ) -> Result<T, Refusal>
+        ensures { (r : _) × T.try_from_gives value r × (result ≡ and_then (number_in self.0 self.1 at value) (λ v. in_range at (result_ok r))) }
+    {
+        let Bounds(low, high) = self;
+        match T::try_from(value) {
+            Ok(number) if (low..=high).contains(&value) => Ok(number),
+            _ => Err(Refusal::OutOfRange { cell: at }),
+        }
+    }
+}
+
+// A cell that must not be blank.
+pub(crate) fn filled<C>(at: u8, cell: Option<C>) -> Result<C, Refusal>
+    ensures { result ≡ ok_or cell (WrongBlank at) }
+{
+    cell.ok_or(Refusal::WrongBlank { cell: at })
+}
+
+// Two of one line: a generic one would have to say in its clause what try_from gave.
+
+pub fn side_in(at: u8, value: u64) -> Result<Side, Refusal>
+    ensures { result ≡ side_in at value }
+{
+    Side::try_from(value).map_err(|_| Refusal::OutOfRange { cell: at })
+}
+
+pub fn validity_in(at: u8, value: u64) -> Result<Validity, Refusal>
+    ensures { result ≡ validity_in at value }
+{
+    Validity::try_from(value).map_err(|_| Refusal::OutOfRange { cell: at })
+}
+
+impl TryFrom<u8> for TypeCode {
+    type Error = UnknownCode;
+
+    ghost try_from_gives = { λ byte answer. answer ≡ ok_or (type_of byte) (unknown_code byte) };
+
+    fn try_from(byte: u8) -> Result<TypeCode, UnknownCode> {
+        match byte {
+            b'2' => Ok(TypeCode::Limit),
+            b'4' => Ok(TypeCode::StopLimit),
+            b'K' => Ok(TypeCode::Market),
+            _ => Err(UnknownCode(u64::from(byte))),
+        }
+    }
+}
+
+// A price, which may be blank in every form.
+pub fn price_if_filled(at: u8, cell: Option<Price>) -> Result<Option<Price>, Refusal>
+    ensures { result ≡ if_filled (price_in at) cell }
+{
+    match cell {
+        Some(price) if !price.is_in_range() => Err(Refusal::OutOfRange { cell: at }),
+        _ => Ok(cell),
+    }
+}

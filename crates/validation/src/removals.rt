@@ -1,0 +1,47 @@
+// The forms of a cancel, a mass cancel and an opening.
+ghost use Rattle.std.specs.Prelude.{◌≡◌};
+ghost use Rattle.validation.specs.Removals.{read_cancel, read_mass_cancel, read_opening};
+
+use crate::cells::{DAYS, FIRMS, IDENTIFIERS, INVESTORS, TAGS, filled, side_in};
+use forms::form::{CancelForm, MassCancelForm, OpeningForm};
+use forms::refusal::Refusal;
+use matching::removal::CancelFilter;
+
+// Whose order or stop is to be cancelled.
+#[derive(Clone, Copy)]
+pub struct CancelRequest {
+    pub firm: u16,
+    pub number: u32,
+}
+
+pub fn read_cancel(form: CancelForm) -> Result<CancelRequest, Refusal>
+    ensures { result ≡ read_cancel form }
+{
+    let firm = filled(1, form.firm)?;
+    let number = filled(2, form.number)?;
+    let firm = FIRMS.read(1, firm)?;
+    let number = IDENTIFIERS.read(2, number)?;
+    Ok(CancelRequest { firm, number })
+}
+
+pub fn read_mass_cancel(form: MassCancelForm) -> Result<CancelFilter, Refusal>
+    ensures { result ≡ read_mass_cancel form }
+{
+    let firm = FIRMS.read(1, filled(1, form.firm)?)?;
+    let side = form.side.map(|n| side_in(2, n)).transpose()?;
+    let tag = form.tag.map(|n| TAGS.read(3, n)).transpose()?;
+    let investor = form.investor.map(|n| INVESTORS.read(4, n)).transpose()?;
+    Ok(CancelFilter {
+        firm,
+        side,
+        tag,
+        investor,
+    })
+}
+
+// The day that is to be opened.
+pub fn read_opening(form: OpeningForm) -> Result<u16, Refusal>
+    ensures { result ≡ read_opening form }
+{
+    DAYS.read(1, filled(1, form.day)?)
+}

@@ -1,0 +1,2 @@
+pub mod CaseWords
+pub mod CaseTable

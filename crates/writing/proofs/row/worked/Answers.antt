@@ -1,7 +1,0 @@
-use Rattle.std.proofs.Common.{refl}
-use Rattle.std.specs.Fmt.{digits}
-use Rattle.writing.proofs.row.worked.Goals as goal
-
-pub returns : goal.returns
-unfolding digits
-returns c = record { two_rows = refl; no_rows = refl }
