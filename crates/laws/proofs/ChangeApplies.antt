@@ -54,13 +54,13 @@ amended_row c o p e =
     let k = keeps_turn c o e in
     let r : OrderRow = changed_row c o.turn (min o.shown (new_open_lots c o)) (row_of o) in
     reads r (record {
-      some = omega (arith, p.above);
-      within = omega arith;
-      open_within = omega (arith, p.above);
-      few = p.allowed.few;
-      whole = λ z. omega (arith, p.above, k.fewer, o.whole (sym k.disclosed ∙ z));
-      part = λ z. omega (arith, k.disclosed, o.part (omega (arith, k.disclosed, z)));
-      hidden = λ z. omega (arith, p.above, k.fewer, k.disclosed, o.hidden (omega (arith, k.disclosed, z)));
+      some_shown = omega (arith, p.above);
+      shown_within_open = omega arith;
+      open_within_quantity = omega (arith, p.above);
+      quantity_within_most = p.allowed.few;
+      whole_shown = λ z. omega (arith, p.above, k.fewer, o.whole_shown (sym k.disclosed ∙ z));
+      part_within_disclosed = λ z. omega (arith, k.disclosed, o.part_within_disclosed (omega (arith, k.disclosed, z)));
+      hidden_within_parts = λ z. omega (arith, p.above, k.fewer, k.disclosed, o.hidden_within_parts (omega (arith, k.disclosed, z)));
     })
 
 -- traded lots are the same

@@ -173,7 +173,7 @@ permitted : (c : Amendment) (o : Order) → WithinRanges c → Low o.price → l
     disclosed_barred (new_quantity c o) (new_disclosed c o) ≡ false → Permitted c o
 permitted c o w l a d = record {
   above = a;
-  allowed = allowed_from (new_quantity c o) (new_disclosed c o) (omega arith) (new_few c.quantity o.quantity w.quantity o.few) d;
+  allowed = allowed_from (new_quantity c o) (new_disclosed c o) (omega arith) (new_few c.quantity o.quantity w.quantity o.quantity_within_most) d;
   low = new_low c.price o.price w.price l;
 }
 

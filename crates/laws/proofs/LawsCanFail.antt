@@ -9,7 +9,7 @@ use Rattle.laws.specs.Counterexamples.{Counterexamples, plain}
 pub teeth : Counterexamples
 teeth = record {
   lost_lot = λ h. (let z : ◌≡◌ {A = ℕ} 100 99 = h 1 in omega arith);
-  doubled_lots = λ h. (let o : Order = order_of (plain 1 Sell) in let z : 100 ≡ 100 + (0 + (o.open_lots + 0) + (0 + 0)) + 0 = h 1 in omega (arith, o.some, o.within));
+  doubled_lots = λ h. (let o : Order = order_of (plain 1 Sell) in let z : 100 ≡ 100 + (0 + (o.open_lots + 0) + (0 + 0)) + 0 = h 1 in omega (arith, o.some_shown, o.shown_within_open));
   out_of_turn = λ h. true≢false ((h.in_turn.1.1.0 (inr refl)).1.1.0 refl);
   above_limit = λ h. false≢true (h.in_turn.0 (inl refl)).0;
   unknown_order_trades = λ h. (let z : ◌≡◌ {A = ℕ} 0 1 = h.one_resting in omega arith);

@@ -33,13 +33,13 @@ pub anew_fits : (r : OrderRow) → r.shown ≡ showing r.disclosed r.open_lots �
 anew_fits r e h q a =
     let s = showing_some r.disclosed r.open_lots h in
     record {
-      some = omega arith;
-      within = omega arith;
-      open_within = q;
-      few = a.few;
-      whole = λ z. e ∙ showing_0 r.disclosed r.open_lots z;
-      part = λ z. omega (arith, showing_1 r.disclosed r.open_lots z);
-      hidden = λ z. omega (arith, showing_1 r.disclosed r.open_lots z, a.parts z);
+      some_shown = omega arith;
+      shown_within_open = omega arith;
+      open_within_quantity = q;
+      quantity_within_most = a.few;
+      whole_shown = λ z. e ∙ showing_0 r.disclosed r.open_lots z;
+      part_within_disclosed = λ z. omega (arith, showing_1 r.disclosed r.open_lots z);
+      hidden_within_parts = λ z. omega (arith, showing_1 r.disclosed r.open_lots z, a.parts z);
     }
 
 abbrev pub entered_row : NewOrder → Price → ℕ → OrderRow

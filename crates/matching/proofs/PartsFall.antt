@@ -21,7 +21,7 @@ slices_fall h d a b = ⊎_elim (λ (l : h < d). let x = (div-lt_iff_lt-mul {k = 
     (λ (l : d ≤ h). let e = div-eq-sub-div {m = d} {n = h + (d - 1)} b (omega arith) in let k : h + (d - 1) - d ≡ h - min d h + (d - 1) = omega arith in rw (e, k) (omega arith)) (cases_lt h d)
 
 hidden_most : (o : Order) → o.open_lots - o.shown ≤ 15 * o.disclosed
-hidden_most o = ⊎_elim (λ (z : o.disclosed ≡ 0). omega (arith, o.whole z)) (λ (z : o.disclosed ≡ 0 → ⊥). omega (arith, o.hidden (omega arith))) (cases_eq o.disclosed 0)
+hidden_most o = ⊎_elim (λ (z : o.disclosed ≡ 0). omega (arith, o.whole_shown z)) (λ (z : o.disclosed ≡ 0 → ⊥). omega (arith, o.hidden_within_parts (omega arith))) (cases_eq o.disclosed 0)
 
 pub parts_most : (o : Order) → parts o ≤ 16
 unfolding parts
@@ -39,7 +39,7 @@ unfolding parts
 of_row r h = ap (λ b. row_parts (sound_row b r)) (in_bounds_from r h)
 
 pub reduced_fits : (lots : ℕ) (o : Order) → lots < o.shown → InBounds (with_lots o.turn (o.open_lots - lots) (o.shown - lots) o)
-reduced_fits lots o h = record { some = omega arith; within = omega arith; open_within = omega arith; few = omega arith; whole = λ z. omega (arith, o.whole z); part = λ z. omega (arith, o.part z); hidden = λ z. omega (arith, o.hidden z) }
+reduced_fits lots o h = record { some_shown = omega arith; shown_within_open = omega arith; open_within_quantity = omega arith; quantity_within_most = omega arith; whole_shown = λ z. omega (arith, o.whole_shown z); part_within_disclosed = λ z. omega (arith, o.part_within_disclosed z); hidden_within_parts = λ z. omega (arith, o.hidden_within_parts z) }
 
 pub showing_0 : (d n : ℕ) → d ≡ 0 → showing d n ≡ n
 showing_0 d n z = grind (arith, nat_tests)
@@ -54,13 +54,13 @@ pub refilled_fits : (turn lots : ℕ) (o : Order) → lots < o.open_lots → InB
 refilled_fits turn lots o h =
     let s = showing_some o.disclosed (o.open_lots - lots) (omega arith) in
     record {
-      some = s.0;
-      within = s.1;
-      open_within = omega arith;
-      few = omega arith;
-      whole = λ z. showing_0 o.disclosed (o.open_lots - lots) z;
-      part = λ z. omega (arith, showing_1 o.disclosed (o.open_lots - lots) z);
-      hidden = λ z. omega (arith, showing_1 o.disclosed (o.open_lots - lots) z, o.hidden z, o.part z);
+      some_shown = s.0;
+      shown_within_open = s.1;
+      open_within_quantity = omega arith;
+      quantity_within_most = omega arith;
+      whole_shown = λ z. showing_0 o.disclosed (o.open_lots - lots) z;
+      part_within_disclosed = λ z. omega (arith, showing_1 o.disclosed (o.open_lots - lots) z);
+      hidden_within_parts = λ z. omega (arith, showing_1 o.disclosed (o.open_lots - lots) z, o.hidden_within_parts z, o.part_within_disclosed z);
     }
 
 -- an order that shows again has one part less
@@ -69,7 +69,7 @@ unfolding parts
 parts_refilled turn o h =
     let d : ℕ = o.disclosed in
     let n : ℕ = o.open_lots - o.shown in
-    let k : 1 ≤ d = ⊎_elim (λ (z : o.disclosed ≡ 0). absurd (omega (arith, o.whole z))) (λ (z : o.disclosed ≡ 0 → ⊥). omega arith) (cases_eq o.disclosed 0) in
+    let k : 1 ≤ d = ⊎_elim (λ (z : o.disclosed ≡ 0). absurd (omega (arith, o.whole_shown z))) (λ (z : o.disclosed ≡ 0 → ⊥). omega arith) (cases_eq o.disclosed 0) in
     let e = of_row (with_lots turn n (showing d n) o) (refilled_fits turn o.shown o h) in
     let p : 1 + hidden_parts (n - showing d n) d ≡ 1 + hidden_parts (n - min d n) d = ap (λ m. 1 + hidden_parts (n - m) d) (showing_1 d n k) in
     let v = slices_fall n d (omega arith) k in

@@ -46,10 +46,10 @@ cond_most true x n h = h
 cond_most false x n h = omega arith
 
 pub open_few : (o : Order) (p : Option Price) (r : Order) → open_of o p r ≤ 1000000
-open_few o p r = cond_most (counts o p r) r.open_lots 1000000 (omega (arith, r.within, r.open_within, r.few))
+open_few o p r = cond_most (counts o p r) r.open_lots 1000000 (omega (arith, r.shown_within_open, r.open_within_quantity, r.quantity_within_most))
 
 pub shown_few : (p : Price) (r : Order) → shown_of p r ≤ 1000000
-shown_few p r = cond_most (same_price r.price p) r.shown 1000000 (omega (arith, r.within, r.open_within, r.few))
+shown_few p r = cond_most (same_price r.price p) r.shown 1000000 (omega (arith, r.shown_within_open, r.open_within_quantity, r.quantity_within_most))
 
 total_few : (f : Order → ℕ) → ((r : Order) → f r ≤ 1000000) → (l : List Order) → sum_by f l ≤ 1000000 * length l
 total_few f h [] = omega arith

@@ -1,4 +1,4 @@
--- An order is its row: two orders with one row are one.
+-- An order reads back from its row: two orders with one row are one.
 use Rattle.std.proofs.Common.{◌≡◌, true, false, ap, arith}
 use Rattle.std.proofs.lemmas.Bool.Decides.{nat_tests}
 use Rattle.orders.specs.declared.price.Price.{Price}
@@ -17,7 +17,7 @@ pub in_bounds_from : (r : OrderRow) → InBounds r → keeps_bounds r ≡ true
 unfolding keeps_bounds
 in_bounds_from r h = grind (arith, nat_tests)
 
--- an order that was put as a row reads back
+-- the row of an order keeps the bounds, so it reads back as the order
 pub row_in_bounds : (o : Order) → keeps_bounds (row_of o) ≡ true
 unfolding keeps_bounds
 row_in_bounds o = grind (arith, nat_tests)

@@ -1,14 +1,19 @@
--- Prices: two are compared by their levels alone.
+-- Prices: two are compared by their levels alone (rules 2).
 use Rattle.std.specs.Prelude.{ℕ, Bool, ◌&&◌, ◌==◌, nat_le}
 use Rattle.orders.specs.declared.price.Price.{Price}
+use Rattle.orders.specs.declared.price.TheConstants.{LOWEST, HIGHEST}
 
--- how high a price is
+-- the price of so many hundredths
+abbrev pub price_of_hundredths : ℕ → Price
+price_of_hundredths hundredths = record { hundredths = hundredths }
+
+-- how high a price is, in hundredths
 abbrev pub level : Price → ℕ
-level p = p.hundredths
+level price = price.hundredths
 
 abbrev pub same_price : Price → Price → Bool
-same_price p q = level p == level q
+same_price a b = level a == level b
 
--- an order may carry 0,01 to 999999,99
+-- whether an order may carry the price: 0,01 to 999999,99 (rules 2)
 abbrev pub in_price_range : Price → Bool
-in_price_range p = nat_le 1 p.hundredths && nat_le p.hundredths 99999999
+in_price_range price = nat_le LOWEST (level price) && nat_le (level price) HIGHEST

@@ -1,5 +1,5 @@
--- How an order lies as a plain row, and how a row reads.
-use Rattle.std.specs.Prelude.{◌≡◌, Bool, true, false, cond, refl}
+-- How an order is stored as a plain row, and how a row reads (rules 3, plain rows).
+use Rattle.std.specs.Prelude.{◌≡◌, Bool, true, false, refl, if◌then◌else◌}
 use Rattle.std.proofs.Common.{arith}
 use Rattle.orders.specs.declared.order.Order.{Order}
 use Rattle.orders.specs.declared.order.Stop.{Stop}
@@ -7,75 +7,76 @@ use Rattle.orders.specs.declared.row.OrderRow.{OrderRow}
 use Rattle.orders.specs.declared.row.StopRow.{StopRow}
 use Rattle.orders.specs.Bounds.{keeps_bounds, InBounds, keeps_bounds_facts}
 
+-- an order as a row
 abbrev pub row_of : Order → OrderRow
-row_of o = record {
-  number = o.number;
-  turn = o.turn;
-  firm = o.firm;
-  client = o.client;
-  side = o.side;
-  price = o.price;
-  quantity = o.quantity;
-  open_lots = o.open_lots;
-  shown = o.shown;
-  disclosed = o.disclosed;
-  validity = o.validity;
-  investor = o.investor;
-  tag = o.tag;
+row_of order = record {
+  number = order.number;
+  turn = order.turn;
+  firm = order.firm;
+  client = order.client;
+  side = order.side;
+  price = order.price;
+  quantity = order.quantity;
+  open_lots = order.open_lots;
+  shown = order.shown;
+  disclosed = order.disclosed;
+  validity = order.validity;
+  investor = order.investor;
+  tag = order.tag;
 }
 
--- outside the bounds: quantity, open and shown 1, disclosed 0, the rest as it lies
-abbrev pub sound_row : Bool → OrderRow → OrderRow
-sound_row b r = record {
-  number = r.number;
-  turn = r.turn;
-  firm = r.firm;
-  client = r.client;
-  side = r.side;
-  price = r.price;
-  quantity = cond b r.quantity 1;
-  open_lots = cond b r.open_lots 1;
-  shown = cond b r.shown 1;
-  disclosed = cond b r.disclosed 0;
-  validity = r.validity;
-  investor = r.investor;
-  tag = r.tag;
+-- what is read of a row that keeps the bounds, or does not: quantity, open and shown 1 and disclosed 0 then, the rest as stored
+abbrev pub sound_row : (keeps : Bool) → OrderRow → OrderRow
+sound_row keeps row = record row {
+  quantity = if keeps then row.quantity else 1;
+  open_lots = if keeps then row.open_lots else 1;
+  shown = if keeps then row.shown else 1;
+  disclosed = if keeps then row.disclosed else 0;
 }
 
-sound_row_either : (r : OrderRow) (b : Bool) → keeps_bounds r ≡ b → InBounds (sound_row b r)
-sound_row_either r true e = keeps_bounds_facts r e
-sound_row_either r false e = record { some = omega arith; within = omega arith; open_within = omega arith; few = omega arith; whole = λ h. refl; part = λ h. omega arith; hidden = λ h. omega arith }
+sound_row_either : (row : OrderRow) (keeps : Bool) → keeps_bounds row ≡ keeps → InBounds (sound_row keeps row)
+sound_row_either row true e = keeps_bounds_facts row e
+sound_row_either row false e = record {
+  some_shown = omega arith;
+  shown_within_open = omega arith;
+  open_within_quantity = omega arith;
+  quantity_within_most = omega arith;
+  whole_shown = λ h. refl;
+  part_within_disclosed = λ h. omega arith;
+  hidden_within_parts = λ h. omega arith;
+}
 
-pub sound_row_in_bounds : (r : OrderRow) → InBounds (sound_row (keeps_bounds r) r)
-sound_row_in_bounds r = sound_row_either r (keeps_bounds r) refl
+pub sound_row_in_bounds : (row : OrderRow) → InBounds (sound_row (keeps_bounds row) row)
+sound_row_in_bounds row = sound_row_either row (keeps_bounds row) refl
 
--- the order of a row: each number by itself, so that those that always stay are seen to stay
+-- the order that a row is read as: a choice for each number, so that the numbers that never change compute
 abbrev pub order_of : OrderRow → Order
-order_of r = record {
-  number = r.number;
-  turn = r.turn;
-  firm = r.firm;
-  client = r.client;
-  side = r.side;
-  price = r.price;
-  quantity = cond (keeps_bounds r) r.quantity 1;
-  open_lots = cond (keeps_bounds r) r.open_lots 1;
-  shown = cond (keeps_bounds r) r.shown 1;
-  disclosed = cond (keeps_bounds r) r.disclosed 0;
-  validity = r.validity;
-  investor = r.investor;
-  tag = r.tag;
-  some = (sound_row_in_bounds r).some;
-  within = (sound_row_in_bounds r).within;
-  open_within = (sound_row_in_bounds r).open_within;
-  few = (sound_row_in_bounds r).few;
-  whole = (sound_row_in_bounds r).whole;
-  part = (sound_row_in_bounds r).part;
-  hidden = (sound_row_in_bounds r).hidden;
+order_of row = record {
+  number = row.number;
+  turn = row.turn;
+  firm = row.firm;
+  client = row.client;
+  side = row.side;
+  price = row.price;
+  quantity = if keeps_bounds row then row.quantity else 1;
+  open_lots = if keeps_bounds row then row.open_lots else 1;
+  shown = if keeps_bounds row then row.shown else 1;
+  disclosed = if keeps_bounds row then row.disclosed else 0;
+  validity = row.validity;
+  investor = row.investor;
+  tag = row.tag;
+  some_shown = (sound_row_in_bounds row).some_shown;
+  shown_within_open = (sound_row_in_bounds row).shown_within_open;
+  open_within_quantity = (sound_row_in_bounds row).open_within_quantity;
+  quantity_within_most = (sound_row_in_bounds row).quantity_within_most;
+  whole_shown = (sound_row_in_bounds row).whole_shown;
+  part_within_disclosed = (sound_row_in_bounds row).part_within_disclosed;
+  hidden_within_parts = (sound_row_in_bounds row).hidden_within_parts;
 }
 
+-- a stop as a row, and back
 abbrev pub stop_row_of : Stop → StopRow
-stop_row_of s = record { order = row_of s.order; trigger = s.trigger }
+stop_row_of stop = record { order = row_of stop.order; trigger = stop.trigger }
 
 abbrev pub stop_of : StopRow → Stop
-stop_of r = record { order = order_of r.order; trigger = r.trigger }
+stop_of row = record { order = order_of row.order; trigger = row.trigger }

@@ -1,5 +1,5 @@
--- The two sides, and what a validity means.
-use Rattle.std.specs.Prelude.{ℕ, Bool, true, false, cond, Some, None, Option, ◌==◌}
+-- The two sides, and what a validity means (rules 1).
+use Rattle.std.specs.Prelude.{ℕ, Bool, true, false, Some, None, Option, ◌==◌, if◌then◌else◌}
 use Rattle.orders.specs.declared.side.Side.{Side}
 use Rattle.orders.specs.declared.side.Side.TheVariants.{Buy, Sell}
 use Rattle.orders.specs.declared.side.Validity.{Validity}
@@ -12,32 +12,32 @@ opposite Sell = Buy
 
 abbrev pub same_side : Side → Side → Bool
 same_side Buy Buy = true
-same_side Buy Sell = false
-same_side Sell Buy = false
 same_side Sell Sell = true
+same_side _ _ = false
 
--- an order that never stands
+-- whether what does not trade at once is cancelled: such an order never stands (rules 8, 11)
 abbrev pub is_immediate : Validity → Bool
-is_immediate Day = false
-is_immediate Gtc = false
 is_immediate Ioc = true
 is_immediate Fok = true
+is_immediate _ = false
 
--- an order that closing removes
+-- whether closing removes the order (rules 15)
 abbrev pub is_day : Validity → Bool
 is_day Day = true
-is_day Gtc = false
-is_day Ioc = false
-is_day Fok = false
+is_day _ = false
 
--- 1 buys, 2 sells
+-- the side of a number: 1 buys, 2 sells (rules 1)
 abbrev pub side_of : ℕ → Option Side
-side_of n = cond (n == 1) (Some Buy) (cond (n == 2) (Some Sell) None)
+side_of code = if code == 1 then Some Buy else if code == 2 then Some Sell else None
 
--- 0 Day, 1 GTC, 3 IOC, 4 FOK
+-- the validity of a number: 0 Day, 1 GTC, 3 IOC, 4 FOK (rules 1)
 abbrev pub validity_of : ℕ → Option Validity
-validity_of n = cond (n == 0) (Some Day) (cond (n == 1) (Some Gtc) (cond (n == 3) (Some Ioc) (cond (n == 4) (Some Fok) None)))
+validity_of code =
+    if code == 0 then Some Day else
+    if code == 1 then Some Gtc else
+    if code == 3 then Some Ioc else
+    if code == 4 then Some Fok else None
 
--- what is said of a number that stands for none: the number
+-- what is said of a number that names none: the number
 abbrev pub unknown_code : ℕ → UnknownCode
 unknown_code code = record { 0 = code }

@@ -1,4 +1,4 @@
-// What the derived comparisons mean: prices, sides and ranks compare as the definitions say.
+// Prices, sides and ranks compare by their derives, and as the definitions say.
 ghost use Rattle.std.specs.Prelude.{◌≡◌};
 ghost use Rattle.std.specs.Ordering.{is_lt, is_some_and};
 ghost use Rattle.orders.specs.declared.price.Price.{Price as PriceValue};
@@ -12,11 +12,12 @@ use crate::price::Price;
 use crate::rank::Rank;
 use crate::side::Side;
 
-// Equal prices, sides and ranks are the same, and the lesser rank is ahead.
+/// What the derives of `Price`, `Side` and `Rank` mean: equal ones are the same, and the lesser rank is ahead (rules 4).
 pub fn derived_as_defined()
     ensures prices { (a b : PriceValue) → ⟦<Price as PartialEq>⟧.eq a b ≡ same_price a b }
     ensures sides { (a b : SideValue) → ⟦<Side as PartialEq>⟧.eq a b ≡ same_side a b }
     ensures ranks { (a b : RankValue) → ⟦<Rank as PartialEq>⟧.eq a b ≡ same_rank a b }
     ensures ahead { (a b : RankValue) → is_lt (⟦<Rank as Ord>⟧.cmp a b) ≡ ranks_ahead a b }
-    ensures less { (a b : RankValue) → is_some_and is_lt (⟦<Rank as PartialOrd>⟧.partial_cmp a b) ≡ ranks_ahead a b }
+    ensures less { (a b : RankValue) →
+        is_some_and is_lt (⟦<Rank as PartialOrd>⟧.partial_cmp a b) ≡ ranks_ahead a b }
 {}

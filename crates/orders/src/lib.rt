@@ -1,4 +1,4 @@
-// Orders, stops, their plain rows, and how they rank.
+// Orders, stops, the plain rows that they are stored as, and how they rank.
 #![tactic(auto)]
 
 pub mod compare;

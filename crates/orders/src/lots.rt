@@ -1,4 +1,4 @@
-// Lots shown, lots taken off, and what an order may trade with.
+// Lots shown, lots taken off, and at what price an order may trade (rules 1, 3, 10).
 ghost use Rattle.std.specs.Prelude.{◌≡◌};
 ghost use Rattle.orders.specs.Rows.{order_of};
 ghost use Rattle.orders.specs.Lots.{showing, with_lots, order_reduced, order_refilled, within_limit, same_investor};
@@ -8,7 +8,7 @@ use crate::price::Price;
 use crate::row::OrderRow;
 use crate::side::Side;
 
-// What an order shows of its open lots: the smaller of disclosed and open, or all where nothing is disclosed.
+/// What an order shows of so many open lots: the smaller of the two, or all of them where nothing is disclosed (rules 3).
 pub fn showing(disclosed: u32, lots: u32) -> u32
     ensures { result ≡ showing disclosed lots }
 {
@@ -19,7 +19,7 @@ pub fn showing(disclosed: u32, lots: u32) -> u32
     }
 }
 
-// Whether an order of a side and limit may trade at a price.
+/// Whether an order of a side and limit may trade at a price (rules 1).
 pub fn within_limit(side: Side, limit: Price, price: Price) -> bool
     ensures { result ≡ within_limit side limit price }
 {
@@ -30,7 +30,7 @@ pub fn within_limit(side: Side, limit: Price, price: Price) -> bool
 }
 
 impl Order {
-    // The order under a turn, with other open and shown lots.
+    // The order under a turn, with other open and shown lots; where they are out of bounds, as such a row reads (rules 3).
     fn with_lots(self, turn: u32, open_lots: u32, shown: u32) -> Order
         ensures { result ≡ order_of (with_lots turn open_lots shown self) }
     {
@@ -42,7 +42,7 @@ impl Order {
         })
     }
 
-    // Lots taken off those shown.
+    /// What trading so many lots leaves of a resting order that keeps its turn (rules 10).
     pub fn reduced(self, lots: u32) -> Order
         ensures { result ≡ order_reduced lots self }
     {
@@ -51,7 +51,7 @@ impl Order {
         self.with_lots(self.turn, open_lots, shown)
     }
 
-    // Lots taken off, and the rest shown anew under a turn.
+    /// A refill: what trading so many lots leaves of an order that then shows anew, under a new turn (rules 10).
     pub fn refilled(self, turn: u32, lots: u32) -> Order
         ensures { result ≡ order_refilled turn lots self }
     {
@@ -60,14 +60,14 @@ impl Order {
         self.with_lots(turn, open_lots, shown)
     }
 
-    // Whether the order may trade at a price.
+    /// Whether the order may trade at a price (rules 1).
     pub fn may_trade_at(self, price: Price) -> bool
         ensures { result ≡ within_limit self.side self.price price }
     {
         within_limit(self.side, self.price, price)
     }
 
-    // Whether both orders have one investor.
+    /// Whether both orders have one investor, and not none.
     pub fn has_investor_of(self, other: Order) -> bool
         ensures { result ≡ same_investor self other }
     {

@@ -1,26 +1,42 @@
-// A price, compared by its level and by nothing else.
+// Prices, in hundredths of the currency (rules 2).
 ghost use Rattle.std.specs.Prelude.{◌≡◌};
-ghost use Rattle.orders.specs.Prices.{level, in_price_range};
+ghost use Rattle.orders.specs.Prices.{price_of_hundredths, level, in_price_range};
 
-// Hundredths of the currency; an absent price is an `Option`, never a number.
+/// A price in hundredths of the currency. An absent price is an `Option`, never a number.
 #[derive(Clone, Copy, Debug, PartialEq, Eq, PartialOrd, Ord)]
 pub struct Price {
     pub hundredths: u32,
 }
 
-// The lowest and the highest price that an order may carry.
+/// The lowest price that an order may carry: 0,01.
 pub const LOWEST: u32 = 1;
 
+/// The highest price that an order may carry: 999999,99.
 pub const HIGHEST: u32 = 99_999_999;
 
 impl Price {
+    /// The price of so many hundredths, also of a count that no order may carry.
+    pub fn of_hundredths(hundredths: u32) -> Price
+        ensures { result ≡ price_of_hundredths hundredths }
+    {
+        Price { hundredths }
+    }
+
+    /// How many hundredths the price is.
+    pub fn hundredths(self) -> u32
+        ensures { result ≡ level self }
+    {
+        self.hundredths
+    }
+
+    /// How high the price is: prices compare by it alone.
     pub fn level(self) -> u32
         ensures { result ≡ level self }
     {
         self.hundredths
     }
 
-    // Whether an order may carry the price.
+    /// Whether an order may carry the price (rules 2).
     pub fn is_in_range(self) -> bool
         ensures { result ≡ in_price_range self }
     {

@@ -1,15 +1,15 @@
-// What has a number and an owner, and what has a rank besides.
+// What has a number and an owner, and what has a rank besides (rules 4).
 ghost use Rattle.std.specs.Prelude.{◌≡◌, ℕ, true, false};
 ghost use Rattle.orders.specs.declared.rank.Rank.{Rank as RankValue};
 ghost use Rattle.orders.specs.Ranks.{ranks_ahead, order_key, order_rank, stop_rank};
 ghost use Rattle.orders.specs.RanksLemmas.{ranks_ahead_irreflexive, ranks_ahead_transitive, ranks_ahead_connected};
 
 use crate::price::Price;
-use crate::rank::Rank;
+use crate::rank::{HIGHEST_KEY, Rank};
 use crate::row::{OrderRow, StopRow};
 use crate::side::Side;
 
-// A firm knows what it owns by a client number.
+/// What has a number, and belongs to a firm that knows it by a client number.
 pub trait Numbered {
     ghost number: { Self → ℕ };
 
@@ -27,7 +27,7 @@ pub trait Numbered {
         ensures { result ≡ client self.now };
 }
 
-// Nothing ranks ahead of itself, ranking ahead carries along a chain, and of two different ranks one is ahead.
+/// What has a rank. Nothing ranks ahead of itself, ranking ahead carries along a chain, and of two different ranks one is ahead (rules 4).
 pub trait Ranked: Numbered {
     ghost rank: { Self → RankValue };
 
@@ -36,17 +36,23 @@ pub trait Ranked: Numbered {
 
     ghost irreflexive: { (a : Self) → ranks_ahead (rank a) (rank a) ≡ false };
 
-    ghost transitive: { (a b c : Self) → ranks_ahead (rank a) (rank b) ≡ true → ranks_ahead (rank b) (rank c) ≡ true → ranks_ahead (rank a) (rank c) ≡ true };
+    ghost transitive: { (a b c : Self) →
+        ranks_ahead (rank a) (rank b) ≡ true →
+        ranks_ahead (rank b) (rank c) ≡ true →
+        ranks_ahead (rank a) (rank c) ≡ true };
 
-    ghost connected: { (a b : Self) → ranks_ahead (rank a) (rank b) ≡ false → ranks_ahead (rank b) (rank a) ≡ false → rank a ≡ rank b };
+    ghost connected: { (a b : Self) →
+        ranks_ahead (rank a) (rank b) ≡ false →
+        ranks_ahead (rank b) (rank a) ≡ false →
+        rank a ≡ rank b };
 }
 
-// The key of an order by its price; that of a stop is by its trigger, as if it went the other way.
+// The key of an order by its limit. A stop has the key that an order of the other side has at its trigger.
 fn key(side: Side, price: Price) -> u32
     ensures { result ≡ order_key side price }
 {
     match side {
-        Side::Buy => u32::MAX - price.level(),
+        Side::Buy => HIGHEST_KEY - price.level(),
         Side::Sell => price.level(),
     }
 }

@@ -1,13 +1,13 @@
-// The plain rows that strips and slots hold.
+// The plain rows that strips and slots store (rules 3).
 ghost use Rattle.std.specs.Prelude.{◌≡◌};
 ghost use Rattle.orders.specs.Bounds.{in_bounds, keeps_bounds, InBounds};
 ghost use Rattle.orders.specs.Rows.{row_of, sound_row, order_of, stop_row_of, stop_of};
 
-use crate::order::{Order, Stop};
+use crate::order::{HIDDEN_PARTS, MOST_LOTS, Order, Stop};
 use crate::price::Price;
 use crate::side::{Side, Validity};
 
-// A type beside Order: what lies in a lent slice may be outside the bounds, and no Order is.
+/// The fields of an order as stored. A row in a slice that a caller lends may be out of bounds, and an `Order` cannot be.
 #[derive(Clone, Copy)]
 pub struct OrderRow {
     pub number: u32,
@@ -26,7 +26,7 @@ pub struct OrderRow {
 }
 
 impl OrderRow {
-    // Whether the row keeps the bounds of an order.
+    /// Whether the row keeps the bounds of an order (rules 3).
     #[inline(always)]
     pub fn in_bounds(self) -> bool
         ensures { result ≡ in_bounds self }
@@ -34,7 +34,7 @@ impl OrderRow {
         if self.shown < 1
             || self.open_lots < self.shown
             || self.quantity < self.open_lots
-            || 1_000_000 < self.quantity
+            || MOST_LOTS < self.quantity
         {
             return false;
         }
@@ -42,10 +42,11 @@ impl OrderRow {
             return self.shown == self.open_lots;
         }
         self.shown <= self.disclosed
-            && u64::from(self.open_lots) <= u64::from(self.shown) + 15 * u64::from(self.disclosed)
+            && u64::from(self.open_lots)
+                <= u64::from(self.shown) + u64::from(HIDDEN_PARTS) * u64::from(self.disclosed)
     }
 
-    // The row as it lies within the bounds; outside them one lot, all of it shown, the rest as it lies.
+    // The row itself within the bounds; out of bounds one lot, all of it shown, and the rest as stored.
     #[inline(always)]
     fn sound(self) -> OrderRow
         ensures value { result ≡ sound_row (keeps_bounds self) self }
@@ -64,32 +65,32 @@ impl OrderRow {
     }
 }
 
-// An order as a row, which reads back as the order.
+/// The row of an order, which reads back as the order.
 impl From<Order> for OrderRow {
-    ghost from_gives = { λ o r. (r ≡ row_of o) × (order_of r ≡ o) };
+    ghost from_gives = { λ order row. (row ≡ row_of order) × (order_of row ≡ order) };
 
-    fn from(o: Order) -> OrderRow {
+    fn from(order: Order) -> OrderRow {
         OrderRow {
-            number: o.number,
-            turn: o.turn,
-            firm: o.firm,
-            client: o.client,
-            side: o.side,
-            price: o.price,
-            quantity: o.quantity,
-            open_lots: o.open_lots,
-            shown: o.shown,
-            disclosed: o.disclosed,
-            validity: o.validity,
-            investor: o.investor,
-            tag: o.tag,
+            number: order.number,
+            turn: order.turn,
+            firm: order.firm,
+            client: order.client,
+            side: order.side,
+            price: order.price,
+            quantity: order.quantity,
+            open_lots: order.open_lots,
+            shown: order.shown,
+            disclosed: order.disclosed,
+            validity: order.validity,
+            investor: order.investor,
+            tag: order.tag,
         }
     }
 }
 
-// The order that a row lies for.
+/// The order that a row is read as: of a row out of bounds, one with one lot, all of it shown (rules 3).
 impl From<OrderRow> for Order {
-    ghost from_gives = { λ r o. o ≡ order_of r };
+    ghost from_gives = { λ row order. order ≡ order_of row };
 
     #[inline(always)]
     fn from(row: OrderRow) -> Order {
@@ -112,28 +113,29 @@ impl From<OrderRow> for Order {
     }
 }
 
-// A type beside Stop, since its order is a row: one `Stop<O>` would turn Stop into `Stop Order` in every definition that names it.
+/// The fields of a stop as stored.
+// Not one type with Stop: a `Stop<O>` would turn Stop into `Stop Order` in every definition that names it.
 #[derive(Clone, Copy)]
 pub struct StopRow {
     pub order: OrderRow,
     pub trigger: Price,
 }
 
-// A stop as a row, which reads back as the stop.
+/// The row of a stop, which reads back as the stop.
 impl From<Stop> for StopRow {
-    ghost from_gives = { λ s r. (r ≡ stop_row_of s) × (stop_of r ≡ s) };
+    ghost from_gives = { λ stop row. (row ≡ stop_row_of stop) × (stop_of row ≡ stop) };
 
-    fn from(s: Stop) -> StopRow {
+    fn from(stop: Stop) -> StopRow {
         StopRow {
-            order: OrderRow::from(s.order),
-            trigger: s.trigger,
+            order: OrderRow::from(stop.order),
+            trigger: stop.trigger,
         }
     }
 }
 
-// The stop that a row lies for.
+/// The stop that a row is read as; its order as that of its own row.
 impl From<StopRow> for Stop {
-    ghost from_gives = { λ r s. s ≡ stop_of r };
+    ghost from_gives = { λ row stop. stop ≡ stop_of row };
 
     #[inline(always)]
     fn from(row: StopRow) -> Stop {

@@ -1,14 +1,17 @@
-// Which way an order goes, and how long it holds.
+// Sides, and validities: how long an order is in force (rules 1).
 ghost use Rattle.std.specs.Prelude.{◌≡◌};
 ghost use Rattle.std.specs.Option.{ok_or};
 ghost use Rattle.orders.specs.Sides.{opposite, is_immediate, is_day, side_of, validity_of, unknown_code};
 
+/// The side of an order: it buys (1) or sells (2).
 #[derive(Clone, Copy, Debug, PartialEq, Eq)]
 pub enum Side {
     Buy,
     Sell,
 }
 
+/// How long an order is in force: until closing (Day, 0), until it is cancelled (GTC, 1), only for what trades at once (IOC, 3),
+/// or only where the whole of it trades at once (FOK, 4).
 #[derive(Clone, Copy, Debug, PartialEq, Eq)]
 pub enum Validity {
     Day,
@@ -17,7 +20,7 @@ pub enum Validity {
     Fok,
 }
 
-// A number that stands for none of the values of a kind.
+/// A number that names no side, or no validity: the number itself.
 #[derive(Clone, Copy, Debug, PartialEq, Eq)]
 pub struct UnknownCode(pub u64);
 
@@ -52,6 +55,7 @@ impl TryFrom<u64> for Validity {
 }
 
 impl Side {
+    /// The other side.
     pub fn opposite(self) -> Side
         ensures { result ≡ opposite self }
     {
@@ -63,7 +67,7 @@ impl Side {
 }
 
 impl Validity {
-    // Whether what does not trade at once is cancelled.
+    /// Whether what does not trade at once is cancelled (rules 11).
     pub fn is_immediate(self) -> bool
         ensures { result ≡ is_immediate self }
     {
@@ -73,7 +77,7 @@ impl Validity {
         }
     }
 
-    // Whether closing removes the order.
+    /// Whether closing removes the order (rules 15).
     pub fn is_day(self) -> bool
         ensures { result ≡ is_day self }
     {
