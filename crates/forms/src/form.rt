@@ -1,7 +1,8 @@
-// The forms of the six steps: each cell has a value or is blank.
-// Side, type and validity are numbers here as in the published format: whether they name any is checked later, with refusal 8.
+// The forms of the six steps: what is asked of each, cell by cell (rules 1, sheets 5).
 use orders::price::Price;
 
+/// The cells of an entry (rules 8); `None` is a blank cell. Prices are hundredths, quantities are lots.
+// Side, type and validity are numbers as in the published format: whether they name any is checked later, with refusal 8.
 #[derive(Clone, Copy)]
 pub struct EntryForm {
     pub firm: Option<u64>,
@@ -18,6 +19,7 @@ pub struct EntryForm {
     pub tag: Option<u64>,
 }
 
+/// The cells of a change (rules 13): a blank price, quantity, disclosed or validity stays unchanged.
 #[derive(Clone, Copy)]
 pub struct ChangeForm {
     pub firm: Option<u64>,
@@ -29,12 +31,14 @@ pub struct ChangeForm {
     pub validity: Option<u64>,
 }
 
+/// The cells of a cancel (rules 14).
 #[derive(Clone, Copy)]
 pub struct CancelForm {
     pub firm: Option<u64>,
     pub number: Option<u64>,
 }
 
+/// The cells of a mass cancel (rules 14): all of the firm's orders and stops that match every filled cell are cancelled.
 #[derive(Clone, Copy)]
 pub struct MassCancelForm {
     pub firm: Option<u64>,
@@ -43,12 +47,13 @@ pub struct MassCancelForm {
     pub investor: Option<u64>,
 }
 
+/// The cell of an opening (rules 15).
 #[derive(Clone, Copy)]
 pub struct OpeningForm {
     pub day: Option<u64>,
 }
 
-// The step that a row or a caller asks for.
+/// The step that a row or a caller asks for, with its cells.
 #[derive(Clone, Copy)]
 pub enum Form {
     Entry(EntryForm),

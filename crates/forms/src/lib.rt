@@ -1,4 +1,4 @@
-// What is asked of a venue, cell by cell, and what it may be refused with.
+// What a step is given, cell by cell, and what it may be refused with.
 #![tactic(auto)]
 
 pub mod form;

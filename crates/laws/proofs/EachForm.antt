@@ -11,7 +11,7 @@ use Rattle.books.specs.declared.queue.Record.{Record}
 use Rattle.books.specs.declared.queue.Record.TheVariants.{Standing, Waiting}
 use Rattle.books.specs.Model.{Queues, at, found, look_at, order_of_record}
 use Rattle.tapes.specs.declared.line.Line.{Line}
-use Rattle.tapes.specs.declared.cause.Cause.TheVariants.{NewOrder as WasRequested, DayClosed}
+use Rattle.tapes.specs.declared.cause.Cause.TheVariants.{Requested as WasRequested, DayClosed}
 use Rattle.tapes.specs.Logs.{free_lines}
 use Rattle.forms.specs.declared.form.EntryForm.{EntryForm}
 use Rattle.forms.specs.declared.form.ChangeForm.{ChangeForm}

@@ -13,7 +13,8 @@ use Rattle.matching.specs.declared.amendment.Amendment.{Amendment}
 use Rattle.validation.specs.declared.changes.AmendRequest.{AmendRequest}
 use Rattle.validation.specs.declared.cells.TypeCode.{TypeCode}
 use Rattle.validation.specs.declared.cells.TypeCode.TheVariants.{Limit as LimitType, StopLimit as StopType, Market as MarketType}
-use Rattle.validation.specs.Cells.{and_then, blanks_first, in_range, if_filled, firm_in, identifier_in, lots_in, number_in, investor_in, tag_in, side_in, validity_in, price_in}
+use Rattle.forms.specs.Results.{and_then}
+use Rattle.validation.specs.Cells.{blanks_first, in_range, if_filled, firm_in, identifier_in, lots_in, number_in, investor_in, tag_in, side_in, validity_in, price_in}
 use Rattle.validation.specs.Combinations.{is_stop, disclosed_barred, barred}
 use Rattle.validation.specs.Entries.{wrong_blank, type_in_cell, order_type_of, typed_entry, if_allowed, read_entry}
 use Rattle.validation.specs.Changes.{wrong_change_blank, typed_change, validity_barred, if_lasting, read_change}

@@ -22,7 +22,8 @@ use Rattle.matching.specs.Model.{MatchState, Event, accepts, accepts_and_cancels
 use Rattle.matching.specs.Running.{total, first_order, run_to_rest}
 use Rattle.matching.specs.Reach.{reach}
 use Rattle.matching.specs.Entering.{entered_order, all_or_none, falls_short, accepts_or_cancels, market_arrival, arrival_as, enter}
-use Rattle.validation.specs.Cells.{and_then, blanks_first}
+use Rattle.forms.specs.Results.{and_then}
+use Rattle.validation.specs.Cells.{blanks_first}
 use Rattle.validation.specs.Combinations.{is_stop, disclosed_barred, barred}
 use Rattle.validation.specs.Entries.{wrong_blank, typed_entry, if_allowed, read_entry}
 use Rattle.venue.specs.declared.day.Day.{Day}

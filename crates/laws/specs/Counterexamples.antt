@@ -7,7 +7,7 @@ use Rattle.orders.specs.declared.price.Price.{Price}
 use Rattle.orders.specs.declared.row.OrderRow.{OrderRow}
 use Rattle.orders.specs.Rows.{order_of}
 use Rattle.books.specs.Model.{Queues}
-use Rattle.tapes.specs.declared.cause.Cause.TheVariants.{NewOrder}
+use Rattle.tapes.specs.declared.cause.Cause.TheVariants.{Requested}
 use Rattle.tapes.specs.declared.line.Line.TheVariants.{Accepted, Traded, Cancelled}
 use Rattle.laws.specs.Accounts.{Balanced}
 use Rattle.laws.specs.Quiescence.{Uncrossed, Unripe}
@@ -46,7 +46,7 @@ nobody = record {
 
 -- 100 lots entered, 99 cancelled, none left
 abbrev pub LostLot : Type 0
-LostLot = Balanced (Cancelled 1 (Some at_20) 99 NewOrder ∷ Accepted 1 (Some at_20) 100 ∷ []) nobody → ⊥
+LostLot = Balanced (Cancelled 1 (Some at_20) 99 Requested ∷ Accepted 1 (Some at_20) 100 ∷ []) nobody → ⊥
 
 -- 100 lots entered, traded once, and still open
 abbrev pub DoubledLots : Type 0

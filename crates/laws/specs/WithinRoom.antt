@@ -13,7 +13,7 @@ use Rattle.books.specs.declared.queue.Record.TheVariants.{Standing, Waiting}
 use Rattle.books.specs.declared.queue.PutError.TheVariants.{Full}
 use Rattle.books.specs.Model.{Queues, put_answer, taken, order_of_record}
 use Rattle.tapes.specs.declared.cause.Cause.{Cause}
-use Rattle.tapes.specs.declared.cause.Cause.TheVariants.{NewOrder, Leftover, ShortReach, OwnInvestor, NotPut, NoOpposite, DayClosed}
+use Rattle.tapes.specs.declared.cause.Cause.TheVariants.{Requested, Leftover, ShortReach, OwnInvestor, NotPut, NoOpposite, DayClosed}
 use Rattle.tapes.specs.declared.line.Line.{Line}
 use Rattle.tapes.specs.declared.line.Line.TheVariants.{Accepted, Cancelled}
 use Rattle.forms.specs.declared.form.EntryForm.{EntryForm}
@@ -70,7 +70,7 @@ outcome_put refilled lots stamp r q = put_answer (Standing (order_refilled stamp
 outcome_put reduced lots stamp r q = Unit {0}
 
 abbrev pub IfNoPlace : Cause → Type 0 → Type 0
-IfNoPlace NewOrder A = Unit {0}
+IfNoPlace Requested A = Unit {0}
 IfNoPlace Leftover A = Unit {0}
 IfNoPlace ShortReach A = Unit {0}
 IfNoPlace OwnInvestor A = Unit {0}

@@ -8,6 +8,7 @@ use Rattle.forms.specs.declared.form.MassCancelForm.{MassCancelForm}
 use Rattle.forms.specs.declared.form.OpeningForm.{OpeningForm}
 use Rattle.forms.specs.declared.form.Form as form
 use Rattle.forms.specs.declared.form.Form.{Form}
+use Rattle.forms.specs.Results.{and_then}
 use Rattle.forms.specs.declared.refusal.Refusal.{Refusal}
 use Rattle.forms.specs.declared.refusal.Refusal.TheVariants.{UnknownRow, WrongCells, CellMisplaced, Unreadable}
 use Rattle.sheets.specs.Cells.{read_number, read_price, read_type}
@@ -16,11 +17,6 @@ use Rattle.sheets.specs.Letters.{letter_of, cells_of}
 use Rattle.sheets.specs.declared.directory.Directory.TheVariants.{Cells}
 use Rattle.sheets.specs.declared.letter.Letter.{Letter}
 use Rattle.sheets.specs.declared.letter.Letter.TheVariants.{Entry, Change, Cancel, MassCancel, Closing, Opening}
-
--- the first refusal ends the reading
-abbrev pub and_then : {A B : Type 0} → Result A Refusal → (A → Result B Refusal) → Result B Refusal
-and_then (Ok x) f = f x
-and_then (Err e) f = Err e
 
 -- cell k, from 0, as its reader says; a refusal counts it from 1
 abbrev pub in_cell : {A : Type 0} → ℕ → Result A ℕ → Result A Refusal

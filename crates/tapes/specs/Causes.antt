@@ -1,10 +1,11 @@
--- The published number of each cause.
+-- The published number of each cause (numbers 7).
 use Rattle.std.specs.Prelude.{ℕ}
 use Rattle.tapes.specs.declared.cause.Cause.{Cause}
-use Rattle.tapes.specs.declared.cause.Cause.TheVariants.{NewOrder, Leftover, ShortReach, OwnInvestor, NotPut, NoOpposite, DayClosed}
+use Rattle.tapes.specs.declared.cause.Cause.TheVariants.{Requested, Leftover, ShortReach, OwnInvestor, NotPut, NoOpposite, DayClosed}
 
+-- what a cancel line prints as its cause (numbers 7)
 abbrev pub cause_number : Cause → ℕ
-cause_number NewOrder = 1
+cause_number Requested = 1
 cause_number Leftover = 2
 cause_number ShortReach = 3
 cause_number OwnInvestor = 4

@@ -1,28 +1,28 @@
-// Why an order or stop was cancelled.
+// Why lots of an order or stop were cancelled.
 ghost use Rattle.std.specs.Prelude.{◌≡◌};
 ghost use Rattle.tapes.specs.Causes.{cause_number};
 
-// Each with its published number.
+/// Why lots were cancelled, each with its published number (numbers 7).
 #[derive(Clone, Copy, Debug, PartialEq, Eq)]
 pub enum Cause {
-    // A cancel or mass cancel asked for it.
-    NewOrder = 1,
-    // What an IOC order did not trade at once.
+    /// The firm cancelled the order or stop, alone or by a mass cancel.
+    Requested = 1,
+    /// An IOC order had a leftover: lots that did not trade at once.
     Leftover = 2,
-    // Reach fell short of the quantity of a FOK order, or of a minimum.
+    /// The reach was below the quantity of a FOK order, or below a minimum.
     ShortReach = 3,
-    // It met an order of its own investor.
+    /// The incoming order met an order of its own investor.
     OwnInvestor = 4,
-    // Its queue refused it.
+    /// The put was refused: the queue was full, or the number in the book already.
     NotPut = 5,
-    // A market order found no opposite order.
+    /// A market order (type K) found no opposite order.
     NoOpposite = 6,
-    // The day was closed.
+    /// Closing removed a Day order or stop.
     DayClosed = 7,
 }
 
 impl Cause {
-    // The published number.
+    /// The published number.
     pub fn number(self) -> u8
         ensures { result ≡ cause_number self }
     {

@@ -1,4 +1,4 @@
-// What is written as things happen: the tape.
+// The tape: the list of lines that the steps write (rules 16).
 ghost use Rattle.std.specs.Prelude.{◌≡◌, ◌≤◌, vec_len, vec_capacity, vec_items, reverse, IfOk};
 ghost use Rattle.tapes.specs.Logs.{line_added, free_lines, empty_log};
 
@@ -6,8 +6,8 @@ use crate::line::Line;
 use std::alloc::{AllocError, Global};
 use std::marker::Model;
 
-/// The lines written so far, at most `limit`, for which memory is held from the start. In a clause a tape is its `Log`.
-// Not one type with the list of replies: only a slip adds a reply, so a shared list would be wrapped there, call by call.
+/// The lines written so far, at most `limit`; memory for all of them is there from the start. In a clause a tape is its `Log`.
+// Not one type with the list of replies, to which only a slip adds.
 #[derive(Drop)]
 pub struct Tape {
     lines: Vec<Line>,
@@ -26,7 +26,7 @@ impl Model for Tape {
 }
 
 impl Tape {
-    /// An empty tape for `limit` lines.
+    /// An empty tape for `limit` lines. The only error is that memory ran out.
     pub fn new(heap: Global, limit: usize) -> Result<Tape, AllocError>
         ensures { IfOk result (λ t. t ≡ empty_log limit) }
     {
@@ -34,7 +34,7 @@ impl Tape {
         Ok(Tape { lines, limit })
     }
 
-    /// How many more lines it takes.
+    /// How many more lines it takes (rules 7).
     pub fn free_lines(&self) -> usize
         ensures { result ≡ free_lines self.now }
     {
@@ -50,7 +50,7 @@ impl Tape {
         }
     }
 
-    /// Takes every line off; the room stays.
+    /// Removes every line; the limit stays (rules 6).
     pub fn clear(&mut self)
         ensures { self.new ≡ empty_log self.old.limit }
     {

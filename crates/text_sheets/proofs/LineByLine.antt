@@ -4,7 +4,8 @@ use Rattle.std.specs.List.{slice_get}
 use Rattle.std.proofs.lemmas.List.{drop_more, drop_all}
 use Rattle.forms.specs.declared.form.Form.{Form}
 use Rattle.text_sheets.specs.declared.refused.Refused.{Refused}
-use Rattle.text_sheets.specs.FormsOfLines.{lines_of_text, with_line, and_then, named_from, RefusedInLine, Blames}
+use Rattle.forms.specs.Results.{and_then}
+use Rattle.text_sheets.specs.FormsOfLines.{lines_of_text, with_line, named_from, RefusedInLine, Blames}
 
 module _ (ls : List (List ℕ)) (k : ℕ) (forms : List Form) where
   -- behind the last line

@@ -2,6 +2,7 @@
 use Rattle.std.specs.Prelude.{◌≡◌, ℕ, ◌+◌, ◌-◌, ◌≤◌, true, cond, List, [], ◌∷◌, ◌++◌, length, map, Some, None, Ok, Err, Option, Result, ◌==◌, nat_le, nat_lt}
 use Rattle.std.specs.List.{slice_get, slice_split, list_all}
 use Rattle.std.specs.Option.{unwrap_or}
+use Rattle.forms.specs.Results.{and_then}
 use Rattle.forms.specs.declared.form.Form.{Form}
 use Rattle.sheets.specs.FormBounds.{form_in_bounds}
 use Rattle.sheets.specs.Layout.{part}
@@ -38,11 +39,6 @@ with_read n line forms (Err w) = Err (refused n w Word)
 
 abbrev pub with_line : ℕ → List ℕ → List Form → Result (List Form) Refused
 with_line n line forms = with_read n line forms (read_line line)
-
--- the first refusal ends the reading
-abbrev pub and_then : Result (List Form) Refused → (List Form → Result (List Form) Refused) → Result (List Form) Refused
-and_then (Ok forms) f = f forms
-and_then (Err e) f = Err e
 
 -- line by line, of which the first is number n
 abbrev pub named_from : ℕ → List (List ℕ) → List Form → Result (List Form) Refused

@@ -5,15 +5,11 @@ use Rattle.orders.specs.declared.side.Validity.{Validity}
 use Rattle.orders.specs.Sides.{side_of, validity_of}
 use Rattle.orders.specs.declared.price.Price.{Price}
 use Rattle.orders.specs.Prices.{in_price_range}
+use Rattle.forms.specs.Results.{and_then}
 use Rattle.forms.specs.declared.refusal.Refusal.{Refusal}
 use Rattle.forms.specs.declared.refusal.Refusal.TheVariants.{WrongBlank, OutOfRange}
 use Rattle.validation.specs.declared.cells.TypeCode.{TypeCode}
 use Rattle.validation.specs.declared.cells.TypeCode.TheVariants.{Limit, StopLimit, Market}
-
--- the first refusal ends the reading
-abbrev pub and_then : {A B : Type 0} → Result A Refusal → (A → Result B Refusal) → Result B Refusal
-and_then (Ok x) f = f x
-and_then (Err e) f = Err e
 
 -- a blank that is wrong comes first
 abbrev pub blanks_first : {A : Type 0} → Option ℕ → Result A Refusal → Result A Refusal

@@ -7,7 +7,8 @@ use Rattle.forms.specs.declared.form.ChangeForm.{ChangeForm}
 use Rattle.forms.specs.declared.refusal.Refusal.{Refusal}
 use Rattle.forms.specs.declared.refusal.Refusal.TheVariants.{Barred}
 use Rattle.validation.specs.declared.changes.AmendRequest.{AmendRequest}
-use Rattle.validation.specs.Cells.{and_then, blanks_first, is_blank_cell, if_filled, firm_in, identifier_in, lots_in, validity_in, price_in}
+use Rattle.forms.specs.Results.{and_then}
+use Rattle.validation.specs.Cells.{blanks_first, is_blank_cell, if_filled, firm_in, identifier_in, lots_in, validity_in, price_in}
 
 -- firm, client number and order number are filled; a blank cell behind them leaves the order as it is
 abbrev pub wrong_change_blank : ChangeForm → Option ℕ

@@ -10,7 +10,8 @@ use Rattle.matching.specs.declared.new_order.OrderType.TheVariants.{Limit, Marke
 use Rattle.matching.specs.declared.new_order.NewOrder.{NewOrder}
 use Rattle.validation.specs.declared.cells.TypeCode.{TypeCode}
 use Rattle.validation.specs.declared.cells.TypeCode.TheVariants.{Limit as LimitType, StopLimit as StopType, Market as MarketType}
-use Rattle.validation.specs.Cells.{and_then, blanks_first, is_blank_cell, in_range, if_filled, firm_in, identifier_in, lots_in, investor_in, tag_in, side_in, validity_in, type_of, price_in}
+use Rattle.forms.specs.Results.{and_then}
+use Rattle.validation.specs.Cells.{blanks_first, is_blank_cell, in_range, if_filled, firm_in, identifier_in, lots_in, investor_in, tag_in, side_in, validity_in, type_of, price_in}
 use Rattle.validation.specs.Combinations.{barred}
 
 -- price is filled exactly with types 2 and 4; under a type out of range nothing is asked of it

@@ -8,7 +8,8 @@ use Rattle.forms.specs.declared.refusal.Refusal.{Refusal}
 use Rattle.forms.specs.declared.refusal.Refusal.TheVariants.{WrongBlank}
 use Rattle.matching.specs.declared.removal.CancelFilter.{CancelFilter}
 use Rattle.validation.specs.declared.removals.CancelRequest.{CancelRequest}
-use Rattle.validation.specs.Cells.{and_then, blanks_first, is_blank_cell, if_filled, firm_in, identifier_in, day_in, investor_in, tag_in, side_in}
+use Rattle.forms.specs.Results.{and_then}
+use Rattle.validation.specs.Cells.{blanks_first, is_blank_cell, if_filled, firm_in, identifier_in, day_in, investor_in, tag_in, side_in}
 
 -- both cells are filled
 abbrev pub read_cancel : CancelForm → Result CancelRequest Refusal

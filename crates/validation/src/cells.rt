@@ -4,7 +4,8 @@ ghost use Rattle.std.specs.Option.{ok_or};
 ghost use Rattle.std.specs.Result.{result_ok};
 ghost use Rattle.orders.specs.Sides.{unknown_code};
 ghost use Rattle.forms.specs.declared.refusal.Refusal.TheVariants.{WrongBlank};
-ghost use Rattle.validation.specs.Cells.{and_then, in_range, number_in, side_in, validity_in, type_of, price_in, if_filled};
+ghost use Rattle.forms.specs.Results.{and_then};
+ghost use Rattle.validation.specs.Cells.{in_range, number_in, side_in, validity_in, type_of, price_in, if_filled};
 
 use forms::refusal::Refusal;
 use orders::price::Price;

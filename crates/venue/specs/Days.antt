@@ -11,7 +11,7 @@ use Rattle.forms.specs.declared.refusal.Refusal.TheVariants.{WrongDay}
 use Rattle.matching.specs.declared.session.Session.{Session}
 use Rattle.matching.specs.Sessions.{session_from}
 use Rattle.matching.specs.Model.{MatchState}
-use Rattle.validation.specs.Cells.{and_then}
+use Rattle.forms.specs.Results.{and_then}
 use Rattle.validation.specs.Entries.{read_entry}
 use Rattle.validation.specs.Changes.{read_change}
 use Rattle.validation.specs.Removals.{read_cancel, read_mass_cancel, read_opening}

@@ -3,7 +3,7 @@ use Rattle.std.specs.Prelude.{ℕ, cond, Some, None, Ok, Err, Result, nat_le, na
 use Rattle.orders.specs.declared.order.Order.{Order}
 use Rattle.books.specs.Model.{Queues}
 use Rattle.tapes.specs.Logs.{Log}
-use Rattle.tapes.specs.declared.cause.Cause.TheVariants.{NewOrder, DayClosed}
+use Rattle.tapes.specs.declared.cause.Cause.TheVariants.{Requested, DayClosed}
 use Rattle.forms.specs.declared.form.EntryForm.{EntryForm}
 use Rattle.forms.specs.declared.form.ChangeForm.{ChangeForm}
 use Rattle.forms.specs.declared.form.CancelForm.{CancelForm}
@@ -20,7 +20,7 @@ use Rattle.matching.specs.Entering.{enter}
 use Rattle.matching.specs.Changing.{new_quantity, new_disclosed, lots_traded, change_at}
 use Rattle.matching.specs.Removing.{removals}
 use Rattle.validation.specs.declared.changes.AmendRequest.{AmendRequest}
-use Rattle.validation.specs.Cells.{and_then}
+use Rattle.forms.specs.Results.{and_then}
 use Rattle.validation.specs.Combinations.{disclosed_barred}
 use Rattle.validation.specs.Entries.{read_entry}
 use Rattle.validation.specs.Changes.{read_change}
@@ -93,7 +93,7 @@ cancel_answer form q r =
     firms_record a.firm a.number q))
 
 abbrev pub cancel_found : Found → MatchState → MatchState
-cancel_found x f = apply (cancels_resting NewOrder x.queue x.at x.«record») f
+cancel_found x f = apply (cancels_resting Requested x.queue x.at x.«record») f
 
 abbrev pub after_cancel : CancelForm → MatchState → MatchState
 after_cancel form f = after_answer cancel_found (cancel_answer form f.queues f.tape) f
@@ -105,7 +105,7 @@ mass_cancel_answer form q r =
     Ok w))
 
 abbrev pub cancel_matching : CancelFilter → MatchState → MatchState
-cancel_matching w f = removals (Matching w) NewOrder f
+cancel_matching w f = removals (Matching w) Requested f
 
 abbrev pub after_mass_cancel : MassCancelForm → MatchState → MatchState
 after_mass_cancel form f = after_answer cancel_matching (mass_cancel_answer form f.queues f.tape) f

@@ -53,7 +53,7 @@ impl OpenDay {
                 cancel_resting(
                     book,
                     tape,
-                    Cause::NewOrder,
+                    Cause::Requested,
                     found.queue,
                     found.at,
                     found.record,
@@ -76,7 +76,7 @@ impl OpenDay {
     {
         match mass_cancel_answer(book, tape, form) {
             Ok(filter) => {
-                remove(book, tape, Removal::Matching(filter), Cause::NewOrder);
+                remove(book, tape, Removal::Matching(filter), Cause::Requested);
                 (self, Ok(()))
             }
             Err(refusal) => (self, Err(refusal)),

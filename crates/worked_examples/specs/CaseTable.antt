@@ -1,7 +1,7 @@
 -- The table of worked cases.
 use Rattle.std.specs.Prelude.{List, [], ◌∷◌}
 use Rattle.std.specs.List.{AllByRecursion}
-use Rattle.tapes.specs.declared.cause.Cause.TheVariants.{NewOrder, ShortReach, OwnInvestor}
+use Rattle.tapes.specs.declared.cause.Cause.TheVariants.{Requested, ShortReach, OwnInvestor}
 use Rattle.worked_examples.specs.CaseWords.{Case, CaseHolds, entry, limit_order, buy, sell, fok, market, stop, change, cancel, A, R, S, T, C, rest}
 
 -- a bid of 200 at 20,00 stands
@@ -36,7 +36,7 @@ more_sold = record {
 abbrev pub bid_cancelled : Case
 bid_cancelled = record {
   steps = entry 1 (buy 200 2000) ∷ entry 2 (sell 100 2000) ∷ change 1 1 300 2100 ∷ entry 2 (sell 100 2100) ∷ cancel 1 ∷ [];
-  lines = A 1 2000 200 ∷ A 2 2000 100 ∷ T 2 1 2000 100 ∷ R 1 2100 300 ∷ A 4 2100 100 ∷ T 4 1 2100 100 ∷ C 1 2100 100 NewOrder ∷ [];
+  lines = A 1 2000 200 ∷ A 2 2000 100 ∷ T 2 1 2000 100 ∷ R 1 2100 300 ∷ A 4 2100 100 ∷ T 4 1 2100 100 ∷ C 1 2100 100 Requested ∷ [];
   open_lots = [] ∷ [] ∷ [] ∷ [] ∷ [];
 }
 
