@@ -1,4 +1,4 @@
--- Lists read through a function: what is done to the rows is done to what they mean.
+-- Lists read through a function: what is done to stored rows is done to the items that they are read as.
 use Rattle.std.proofs.Common.{◌≡◌, ℕ, suc, ◌+◌, Bool, true, false, cond, not, eqb, List, [], ◌∷◌, map, take, drop, Option, Some, None, refl, ap, ◌∙◌}
 use Rattle.std.specs.List.{prefix_len, remove, slice_get, list_any}
 use Rattle.std.specs.Option.{option_map}
@@ -26,14 +26,14 @@ pub first_number_map : {X Y : Type 0} (f : X → Y) (m : X → ℕ) (n : Y → �
     index_of_number n k (map f xs) ≡ index_of_number m k xs
 first_number_map f m n h k xs = rw (leading_map f (λ x. not (eqb (m x) k)) (λ y. not (eqb (n y) k)) (λ x. ap (λ z. not (eqb z k)) (h x)) xs, length-map) refl
 
--- what a put leaves of what the row means
+-- what a put of a row leaves of the items
 pub put_mapped : {X Y : Type 0} (f : X → Y) (a : X → Rank) (b : Y → Rank) → ((x : X) → b (f x) ≡ a x) →
     (t : Bool) (x : X) (y : Y) (xs ys : List X) → f x ≡ y → ys ≡ cond t (put_by_rank a x xs) xs →
     map f ys ≡ cond t (put_by_rank b y (map f xs)) (map f xs)
 put_mapped f a b h true x y xs ys k e = ap (map f) e ∙ put_in_map f a b h x xs ∙ ap (λ z. put_by_rank b z (map f xs)) k
 put_mapped f a b h false x y xs ys k e = ap (map f) e
 
--- a swap fits the rows where it fits what they mean
+-- a swap is allowed for a row where it is allowed for its item
 pub swap_map : {X Y : Type 0} (f : X → Y) (a : X → Rank) (b : Y → Rank) → ((x : X) → b (f x) ≡ a x) →
     (xs : List X) (i : ℕ) (x : X) (y : Y) → f x ≡ y → swap_allowed a i x xs ≡ swap_allowed b i y (map f xs)
 swap_map f a b h xs i x y k = rw (← k, slice_get-map f xs i) (mapped (slice_get xs i))

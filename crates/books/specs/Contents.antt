@@ -1,9 +1,15 @@
--- What a store means.
-use Rattle.std.specs.Prelude.{ℕ, ◌≤◌, List, length}
+-- What a queue store means.
+use Rattle.std.specs.Prelude.{ℕ, ◌≤◌, List, length, map}
+use Rattle.books.specs.declared.book.TheConstants.{MOST_RECORDS}
 
--- rows in order, with a capacity: their count does not pass it, nor it a million
-pub record Contents (X : Type 0) : Type 0 where
-  pub rows : List X
+-- rows in rank order, with a capacity that their count does not pass (rules 5)
+pub record Contents (Row : Type 0) : Type 0 where
+  pub rows : List Row
   pub capacity : ℕ
-  pub within : length rows ≤ capacity
-  pub few : capacity ≤ 1000000
+  pub count_within : length rows ≤ capacity
+  pub capacity_within : capacity ≤ MOST_RECORDS
+
+-- the items that the rows of a store are read as: orders, or stops
+abbrev pub stored_items : {Store Row Item : Type 0} →
+    (Row → Item) → (Store → Contents Row) → Store → List Item
+stored_items item contents store = map item (contents store).rows

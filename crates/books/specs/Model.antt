@@ -1,5 +1,5 @@
--- What a book means: four queues of fixed capacity, and what each call answers and leaves.
-use Rattle.std.specs.Prelude.{ℕ, ◌≤◌, ◌==◌, ◌&&◌, Bool, cond, List, [], length, map, is_some, Some, None, Option, Result, Ok, Err, ⊤, nat_lt, slice_set}
+-- What a book means: four queues of fixed capacity, and what each call answers and leaves (rules 5).
+use Rattle.std.specs.Prelude.{ℕ, ◌≤◌, ◌==◌, ◌&&◌, Bool, List, [], length, map, is_some, Some, None, Option, Result, Ok, Err, ⊤, nat_lt, slice_set, if◌then◌else◌}
 use Rattle.std.specs.List.{remove, slice_get, list_any}
 use Rattle.std.specs.Option.{option_map, option_or}
 use Rattle.orders.specs.declared.side.Side.{Side}
@@ -10,6 +10,7 @@ use Rattle.orders.specs.declared.rank.Rank.{Rank}
 use Rattle.orders.specs.Ranks.{order_rank, stop_rank}
 use Rattle.orders.specs.Rows.{row_of, stop_row_of}
 use Rattle.books.specs.RankedLists.{put_by_rank, index_of_number, swap_allowed}
+use Rattle.books.specs.declared.book.TheConstants.{MOST_RECORDS}
 use Rattle.books.specs.declared.queue.Queue.{Queue}
 use Rattle.books.specs.declared.queue.Queue.TheVariants.{Orders, Stops}
 use Rattle.books.specs.declared.queue.Record.{Record}
@@ -17,143 +18,165 @@ use Rattle.books.specs.declared.queue.Record.TheVariants.{Standing, Waiting}
 use Rattle.books.specs.declared.queue.PutError.{PutError}
 use Rattle.books.specs.declared.queue.PutError.TheVariants.{Full, Twice}
 
--- one of each side
+-- one value for each side
 pub record Both (A : Type 0) : Type 0 where
   pub buy : A
   pub sell : A
 
+-- the value of a side
 abbrev pub at : {A : Type 0} → Side → Both A → A
-at Buy b = b.buy
-at Sell b = b.sell
+at Buy both = both.buy
+at Sell both = both.sell
 
+-- another value for a side
 abbrev pub with_at : {A : Type 0} → Side → A → Both A → Both A
-with_at Buy a b = record { buy = a; sell = b.sell }
-with_at Sell a b = record { buy = b.buy; sell = a }
+with_at Buy value both = record both { buy = value }
+with_at Sell value both = record both { sell = value }
 
--- the queues, each in rank order, with their capacities
+-- the four queues, each in rank order, and their capacities (rules 5)
 pub record Queues : Type 0 where
   pub stands : Both (List Order)
   pub waits : Both (List Stop)
   pub standing_capacity : Both ℕ
   pub waiting_capacity : Both ℕ
 
+-- the queues with other orders, or other stops, on a side
 abbrev pub with_stands : Side → List Order → Queues → Queues
-with_stands s l q = record { stands = with_at s l q.stands; waits = q.waits; standing_capacity = q.standing_capacity; waiting_capacity = q.waiting_capacity }
+with_stands side orders queues = record queues { stands = with_at side orders queues.stands }
 
 abbrev pub with_waits : Side → List Stop → Queues → Queues
-with_waits s l q = record { stands = q.stands; waits = with_at s l q.waits; standing_capacity = q.standing_capacity; waiting_capacity = q.waiting_capacity }
+with_waits side stops queues = record queues { waits = with_at side stops queues.waits }
 
--- a record's kind and side name its queue
+-- the queue of a record, by its kind and side (rules 5)
 abbrev pub queue_of : Record → Queue
-queue_of (Standing o) = Orders o.side
-queue_of (Waiting x) = Stops x.order.side
+queue_of (Standing order) = Orders order.side
+queue_of (Waiting stop) = Stops stop.order.side
 
 abbrev pub number_of : Record → ℕ
-number_of (Standing o) = o.number
-number_of (Waiting x) = x.order.number
+number_of (Standing order) = order.number
+number_of (Waiting stop) = stop.order.number
 
 abbrev pub rank_of : Order → Rank
-rank_of o = order_rank (row_of o)
+rank_of order = order_rank (row_of order)
 
 abbrev pub stop_rank_of : Stop → Rank
-stop_rank_of x = stop_rank (stop_row_of x)
+stop_rank_of stop = stop_rank (stop_row_of stop)
 
--- how a record ranks in its queue
+-- how a record ranks in its queue (rules 4)
 abbrev pub record_rank : Record → Rank
-record_rank (Standing o) = rank_of o
-record_rank (Waiting x) = stop_rank_of x
+record_rank (Standing order) = rank_of order
+record_rank (Waiting stop) = stop_rank_of stop
 
--- count and capacity
+-- how many records a queue has, and how many it can hold (rules 5)
 abbrev pub count : Queue → Queues → ℕ
-count (Orders s) q = length (at s q.stands)
-count (Stops s) q = length (at s q.waits)
+count (Orders side) queues = length (at side queues.stands)
+count (Stops side) queues = length (at side queues.waits)
 
 abbrev pub capacity : Queue → Queues → ℕ
-capacity (Orders s) q = at s q.standing_capacity
-capacity (Stops s) q = at s q.waiting_capacity
+capacity (Orders side) queues = at side queues.standing_capacity
+capacity (Stops side) queues = at side queues.waiting_capacity
 
--- no count passes its capacity, and no capacity a million
-pub record Bounded (q : Queues) : Type 0 where
-  pub within : (n : Queue) → count n q ≤ capacity n q
-  pub few : (n : Queue) → capacity n q ≤ 1000000
+-- no count passes its capacity, and no capacity a million (rules 5)
+pub record Bounded (queues : Queues) : Type 0 where
+  pub count_within : (queue : Queue) → count queue queues ≤ capacity queue queues
+  pub capacity_within : (queue : Queue) → capacity queue queues ≤ MOST_RECORDS
 
--- the record at a place
-abbrev pub look_at : Queue → ℕ → Queues → Option Record
-look_at (Orders s) i q = option_map Standing (slice_get (at s q.stands) i)
-look_at (Stops s) i q = option_map Waiting (slice_get (at s q.waits) i)
+-- look: the record at a place of a queue (rules 5)
+abbrev pub look_at : Queue → (index : ℕ) → Queues → Option Record
+look_at (Orders side) index queues = option_map Standing (slice_get (at side queues.stands) index)
+look_at (Stops side) index queues = option_map Waiting (slice_get (at side queues.waits) index)
 
--- queue and place of the first record with a number, in the order of the queues
-abbrev pub found : ℕ → Queues → Option (Queue × ℕ)
-found n q =
-    option_or (option_map (λ p. (Orders Buy, p)) (index_of_number (λ (o : Order). o.number) n q.stands.buy))
-    (option_or (option_map (λ p. (Orders Sell, p)) (index_of_number (λ (o : Order). o.number) n q.stands.sell))
-    (option_or (option_map (λ p. (Stops Buy, p)) (index_of_number (λ (x : Stop). x.order.number) n q.waits.buy))
-    (option_map (λ p. (Stops Sell, p)) (index_of_number (λ (x : Stop). x.order.number) n q.waits.sell))))
+-- find: queue and place of the first record with a number, in the order of the queues (rules 5)
+abbrev pub found : (number : ℕ) → Queues → Option (Queue × ℕ)
+found number queues =
+    let order_at = index_of_number (λ (order : Order). order.number) number in
+    let stop_at = index_of_number (λ (stop : Stop). stop.order.number) number in
+    option_or (option_map (λ index. (Orders Buy, index)) (order_at queues.stands.buy))
+    (option_or (option_map (λ index. (Orders Sell, index)) (order_at queues.stands.sell))
+    (option_or (option_map (λ index. (Stops Buy, index)) (stop_at queues.waits.buy))
+    (option_map (λ index. (Stops Sell, index)) (stop_at queues.waits.sell))))
 
 -- what a put answers: done, or why not
 abbrev pub PutAnswer : Type 0
 PutAnswer = Result ⊤ PutError
 
--- full, else twice, else done
+-- put: full, else twice, else done (rules 5)
 abbrev pub put_answer : Record → Queues → PutAnswer
-put_answer e q = cond (nat_lt (count (queue_of e) q) (capacity (queue_of e) q)) (cond (is_some (found (number_of e) q)) (Err Twice) (Ok tt)) (Err Full)
+put_answer «record» queues =
+    if nat_lt (count (queue_of «record») queues) (capacity (queue_of «record») queues)
+    then (if is_some (found (number_of «record») queues) then Err Twice else Ok tt)
+    else Err Full
 
+-- a record put into its queue by rank
 abbrev pub inserted : Record → Queues → Queues
-inserted (Standing o) q = with_stands o.side (put_by_rank rank_of o (at o.side q.stands)) q
-inserted (Waiting x) q = with_waits x.order.side (put_by_rank stop_rank_of x (at x.order.side q.waits)) q
+inserted (Standing order) queues =
+    with_stands order.side (put_by_rank rank_of order (at order.side queues.stands)) queues
+inserted (Waiting stop) queues =
+    let side = stop.order.side in
+    with_waits side (put_by_rank stop_rank_of stop (at side queues.waits)) queues
 
--- what a put leaves, by its answer
+-- what a put leaves, by its answer (rules 5)
 abbrev pub after_put : PutAnswer → Record → Queues → Queues
-after_put (Ok _) e q = inserted e q
-after_put (Err Full) e q = q
-after_put (Err Twice) e q = q
+after_put (Ok _) «record» queues = inserted «record» queues
+after_put (Err _) «record» queues = queues
 
--- what leaves a place
-abbrev pub taken : Queue → ℕ → Queues → Queues
-taken (Orders s) i q = with_stands s (remove (at s q.stands) i) q
-taken (Stops s) i q = with_waits s (remove (at s q.waits) i) q
+-- what a take leaves: the record at a place of a queue is removed (rules 5)
+abbrev pub taken : Queue → (index : ℕ) → Queues → Queues
+taken (Orders side) index queues = with_stands side (remove (at side queues.stands) index) queues
+taken (Stops side) index queues = with_waits side (remove (at side queues.waits) index) queues
 
+-- what clear leaves: four empty queues (rules 5)
 abbrev pub cleared : Queues → Queues
-cleared q = record { stands = record { buy = []; sell = [] }; waits = record { buy = []; sell = [] }; standing_capacity = q.standing_capacity; waiting_capacity = q.waiting_capacity }
+cleared queues = record queues {
+  stands = record { buy = []; sell = [] };
+  waits = record { buy = []; sell = [] };
+}
 
--- a rewrite fits where the record has the rank, and with it the number, of the one at the place
-abbrev pub rewrite_allowed : ℕ → Record → Queues → Bool
-rewrite_allowed i (Standing o) q = swap_allowed rank_of i o (at o.side q.stands)
-rewrite_allowed i (Waiting x) q = swap_allowed stop_rank_of i x (at x.order.side q.waits)
+-- whether a record may be rewritten: it has the rank, and with it the number, of the one at the place (rules 5)
+abbrev pub rewrite_allowed : (index : ℕ) → Record → Queues → Bool
+rewrite_allowed index (Standing order) queues =
+    swap_allowed rank_of index order (at order.side queues.stands)
+rewrite_allowed index (Waiting stop) queues =
+    swap_allowed stop_rank_of index stop (at stop.order.side queues.waits)
 
-abbrev pub record_set : ℕ → Record → Queues → Queues
-record_set i (Standing o) q = with_stands o.side (slice_set (at o.side q.stands) i o) q
-record_set i (Waiting x) q = with_waits x.order.side (slice_set (at x.order.side q.waits) i x) q
+-- a record in a place of its queue
+abbrev pub record_set : (index : ℕ) → Record → Queues → Queues
+record_set index (Standing order) queues =
+    with_stands order.side (slice_set (at order.side queues.stands) index order) queues
+record_set index (Waiting stop) queues =
+    with_waits stop.order.side (slice_set (at stop.order.side queues.waits) index stop) queues
 
--- what a rewrite leaves: the queues as they were where it does not fit
-abbrev pub rewritten : ℕ → Record → Queues → Queues
-rewritten i r q = cond (rewrite_allowed i r q) (record_set i r q) q
+-- what a rewrite leaves: the queues as they were where it is refused (rules 5)
+abbrev pub rewritten : (index : ℕ) → Record → Queues → Queues
+rewritten index «record» queues =
+    if rewrite_allowed index «record» queues then record_set index «record» queues else queues
 
 -- the order that stands, or that the stop would bring into force
 abbrev pub order_of_record : Record → Order
-order_of_record (Standing o) = o
-order_of_record (Waiting x) = x.order
+order_of_record (Standing order) = order
+order_of_record (Waiting stop) = stop.order
 
 -- the orders of a queue, those of stops too
 abbrev pub orders_in : Queue → Queues → List Order
-orders_in (Orders s) q = at s q.stands
-orders_in (Stops s) q = map (λ (x : Stop). x.order) (at s q.waits)
+orders_in (Orders side) queues = at side queues.stands
+orders_in (Stops side) queues = map (λ (stop : Stop). stop.order) (at side queues.waits)
 
--- what a firm knows by a client number, read by what tells the two
+-- whether something has a firm's client number, given how its firm and client number are read
 abbrev pub has_client : {X : Type 0} → (X → ℕ) → (X → ℕ) → (firm client : ℕ) → X → Bool
-has_client firms clients firm client x = firms x == firm && clients x == client
+has_client firm_of client_of firm client x = firm_of x == firm && client_of x == client
 
--- whether an order of a queue has a firm's client number
+-- whether an order or stop of a queue has a firm's client number
 abbrev pub holds_client : (firm client : ℕ) → Queue → Queues → Bool
-holds_client firm client n q = list_any (has_client (λ (o : Order). o.firm) (λ (o : Order). o.client) firm client) (orders_in n q)
+holds_client firm client queue queues =
+    let firm_of : Order → ℕ = λ order. order.firm in
+    let client_of : Order → ℕ = λ order. order.client in
+    list_any (has_client firm_of client_of firm client) (orders_in queue queues)
 
--- the order, or the stop, in what a look tells
+-- the order, or the stop, in the answer of a look
 abbrev pub standing_order : Option Record → Option Order
-standing_order None = None
-standing_order (Some (Standing o)) = Some o
-standing_order (Some (Waiting x)) = None
+standing_order (Some (Standing order)) = Some order
+standing_order _ = None
 
 abbrev pub waiting_stop : Option Record → Option Stop
-waiting_stop None = None
-waiting_stop (Some (Standing o)) = None
-waiting_stop (Some (Waiting x)) = Some x
+waiting_stop (Some (Waiting stop)) = Some stop
+waiting_stop _ = None

@@ -4,6 +4,6 @@ use Rattle.orders.specs.declared.order.Order.{Order}
 use Rattle.books.specs.declared.orders_of.OrdersOf.{OrdersOf}
 use Rattle.books.specs.Model.{Queues, orders_in}
 
--- the orders from its place on
+-- the orders that the iterator has not given yet
 abbrev pub orders_left : {B : Type 0} → (B → Queues) → OrdersOf B → List Order
-orders_left queues s = drop s.index (orders_in s.queue (queues s.book.now))
+orders_left queues walk = drop walk.index (orders_in walk.queue (queues walk.book.now))

@@ -1,15 +1,15 @@
-// The orders of a queue, one after another.
+// The orders of a queue, one after another, by looks.
 ghost use Rattle.std.specs.Prelude.{◌≡◌, ◌≤◌, length};
 ghost use Rattle.std.specs.List.{slice_get};
 ghost use Rattle.std.specs.Iterator.{YieldsFirst, item_count};
 ghost use Rattle.books.specs.Model.{orders_in};
 ghost use Rattle.books.specs.OrdersLeft.{orders_left};
 
-use crate::book::Book;
+use crate::book::{Book, MOST_RECORDS};
 use crate::queue::Queue;
 use orders::order::Order;
 
-// The orders of a queue from a place on; of a stop, the order that it would bring into force.
+/// An iterator over the orders of a queue from a place on; of a stop, the order that it would bring into force.
 #[derive(Drop)]
 pub struct OrdersOf<'a, B> {
     book: &'a B,
@@ -17,10 +17,10 @@ pub struct OrdersOf<'a, B> {
     index: usize,
 }
 
-// The orders of a queue, by rank; a million at most.
+/// The orders of a queue in rank order, those of stops too.
 pub fn orders_in<B: Book>(book: &B, queue: Queue) -> OrdersOf<'_, B>
     ensures rest { orders_left B.queues result ≡ orders_in queue (B.queues book.now) }
-    ensures few { length (orders_in queue (B.queues book.now)) ≤ 1000000 }
+    ensures few { length (orders_in queue (B.queues book.now)) ≤ MOST_RECORDS }
 {
     OrdersOf {
         book,
@@ -29,7 +29,7 @@ pub fn orders_in<B: Book>(book: &B, queue: Queue) -> OrdersOf<'_, B>
     }
 }
 
-// The order at a place of a queue, that of a stop too.
+// The order at a place of a queue, or that of the stop there.
 #[inline(always)]
 fn order_at<B: Book>(book: &B, queue: Queue, index: usize) -> Option<Order>
     ensures { result ≡ slice_get (orders_in queue (B.queues book.now)) index }
@@ -47,7 +47,6 @@ impl<'a, B: Book> Iterator for OrdersOf<'a, B> {
     #[inline(always)]
     fn next(&mut self) -> Option<Order> {
         let order = order_at(self.book, self.queue, self.index)?;
-        // (the iterator's own place: a book is looked at by number)
         self.index += 1;
         Some(order)
     }

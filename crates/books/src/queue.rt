@@ -1,4 +1,4 @@
-// The names of a book's queues, and what stands in them.
+// The names of a book's queues, and the records in them (rules 5).
 ghost use Rattle.std.specs.Prelude.{◌≡◌};
 ghost use Rattle.orders.specs.Rows.{order_of, stop_of};
 ghost use Rattle.books.specs.declared.queue.Record.TheVariants.{Standing, Waiting};
@@ -11,21 +11,21 @@ use orders::ranked::{Numbered, Ranked};
 use orders::row::{OrderRow, StopRow};
 use orders::side::Side;
 
-// A kind and a side name a queue: bids and offers, buy stops and sell stops.
+/// A queue of a book, named by kind and side: bids and offers, buy stops and sell stops.
 #[derive(Clone, Copy, Debug, PartialEq, Eq)]
 pub enum Queue {
     Orders(Side),
     Stops(Side),
 }
 
-// What a queue holds: an order stands, a stop waits.
+/// A record of a book: an order that stands, which is in force and rests in its queue, or a stop that waits for its trigger.
 #[derive(Clone, Copy)]
 pub enum Record {
     Standing(Order),
     Waiting(Stop),
 }
 
-// Why a record is not put.
+/// Why a put is refused: the record's queue is at its capacity, or else its number is in the book already.
 #[derive(Clone, Copy, Debug, PartialEq, Eq)]
 pub enum PutError {
     Full,
@@ -33,27 +33,29 @@ pub enum PutError {
 }
 
 impl Record {
+    /// The queue of the record, by its kind and side.
     pub fn queue(self) -> Queue
         ensures { result ≡ queue_of self }
     {
         match self {
-            Record::Standing(o) => Queue::Orders(o.side),
-            Record::Waiting(x) => Queue::Stops(x.order.side),
+            Record::Standing(order) => Queue::Orders(order.side),
+            Record::Waiting(stop) => Queue::Stops(stop.order.side),
         }
     }
 }
 
-// The record that a row lies for.
+/// The record that a row of an order is read as.
 impl From<OrderRow> for Record {
-    ghost from_gives = { λ row r. r ≡ Standing (order_of row) };
+    ghost from_gives = { λ row given. given ≡ Standing (order_of row) };
 
     fn from(row: OrderRow) -> Record {
         Record::Standing(Order::from(row))
     }
 }
 
+/// The record that a row of a stop is read as.
 impl From<StopRow> for Record {
-    ghost from_gives = { λ row r. r ≡ Waiting (stop_of row) };
+    ghost from_gives = { λ row given. given ≡ Waiting (stop_of row) };
 
     fn from(row: StopRow) -> Record {
         Record::Waiting(Stop::from(row))
@@ -69,8 +71,8 @@ impl Numbered for Record {
 
     fn number(&self) -> u32 {
         match *self {
-            Record::Standing(o) => o.number,
-            Record::Waiting(x) => x.order.number,
+            Record::Standing(order) => order.number,
+            Record::Waiting(stop) => stop.order.number,
         }
     }
 
@@ -83,20 +85,21 @@ impl Numbered for Record {
     }
 }
 
-// A record ranks as its row does.
+/// A record ranks as its row does.
 impl Ranked for Record {
     ghost rank = { record_rank };
 
     ghost irreflexive = { λ a. ranks_ahead_irreflexive (record_rank a) };
 
-    ghost transitive = { λ a b c. ranks_ahead_transitive (record_rank a) (record_rank b) (record_rank c) };
+    ghost transitive = { λ a b c.
+        ranks_ahead_transitive (record_rank a) (record_rank b) (record_rank c) };
 
     ghost connected = { λ a b. ranks_ahead_connected (record_rank a) (record_rank b) };
 
     fn rank(&self) -> Rank {
         match *self {
-            Record::Standing(o) => OrderRow::from(o).rank(),
-            Record::Waiting(x) => StopRow::from(x).rank(),
+            Record::Standing(order) => OrderRow::from(order).rank(),
+            Record::Waiting(stop) => StopRow::from(stop).rank(),
         }
     }
 }

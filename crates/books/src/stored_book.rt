@@ -1,4 +1,4 @@
-// A book of four stores.
+// The book over four stores of plain rows.
 ghost use Rattle.std.specs.Prelude.{◌≡◌};
 ghost use Rattle.books.specs.StoredQueues.{stored_queues};
 ghost use Rattle.books.specs.StoredBounds.{stored_bounded};
@@ -11,7 +11,7 @@ use orders::ranked::Numbered;
 use orders::row::{OrderRow, StopRow};
 use orders::side::Side;
 
-// Bids, offers, buy stops and sell stops, each in a store of its own.
+/// Bids, offers, buy stops and sell stops, each in a store of its own. It means the orders and stops that the stored rows are read as.
 #[derive(Drop)]
 pub struct StoredBook<O, S> {
     pub bids: O,
@@ -20,7 +20,7 @@ pub struct StoredBook<O, S> {
     pub sells: S,
 }
 
-// An arm for each queue: a store picked by its side would be lent out, with a clause on what the loan leaves.
+// An arm for each queue: a function that picked the store would lend it, and would need a clause on what the loan leaves.
 impl<O: QueueStore<Row = OrderRow>, S: QueueStore<Row = StopRow>> Book for StoredBook<O, S> {
     ghost queues = { stored_queues O.QueueStore.contents S.QueueStore.contents };
 
@@ -36,21 +36,27 @@ impl<O: QueueStore<Row = OrderRow>, S: QueueStore<Row = StopRow>> Book for Store
     }
 
     #[inline(always)]
-    fn look(&self, queue: Queue, at: usize) -> Option<Record> {
+    fn look(&self, queue: Queue, index: usize) -> Option<Record> {
         match queue {
-            Queue::Orders(Side::Buy) => item_at(&self.bids, at).map(Record::Standing),
-            Queue::Orders(Side::Sell) => item_at(&self.offers, at).map(Record::Standing),
-            Queue::Stops(Side::Buy) => item_at(&self.buys, at).map(Record::Waiting),
-            Queue::Stops(Side::Sell) => item_at(&self.sells, at).map(Record::Waiting),
+            Queue::Orders(Side::Buy) => item_at(&self.bids, index).map(Record::Standing),
+            Queue::Orders(Side::Sell) => item_at(&self.offers, index).map(Record::Standing),
+            Queue::Stops(Side::Buy) => item_at(&self.buys, index).map(Record::Waiting),
+            Queue::Stops(Side::Sell) => item_at(&self.sells, index).map(Record::Waiting),
         }
     }
 
     fn find(&self, number: u32) -> Option<(Queue, usize)> {
         find_item(&self.bids, number)
-            .map(|p| (Queue::Orders(Side::Buy), p))
-            .or_else(|| find_item(&self.offers, number).map(|p| (Queue::Orders(Side::Sell), p)))
-            .or_else(|| find_item(&self.buys, number).map(|p| (Queue::Stops(Side::Buy), p)))
-            .or_else(|| find_item(&self.sells, number).map(|p| (Queue::Stops(Side::Sell), p)))
+            .map(|index| (Queue::Orders(Side::Buy), index))
+            .or_else(|| find_item(&self.offers, number).map(|index| (
+                Queue::Orders(Side::Sell),
+                index,
+            )))
+            .or_else(|| find_item(&self.buys, number).map(|index| (Queue::Stops(Side::Buy), index)))
+            .or_else(|| find_item(&self.sells, number).map(|index| (
+                Queue::Stops(Side::Sell),
+                index,
+            )))
     }
 
     fn put(&mut self, record: Record) -> Result<(), PutError> {
@@ -62,37 +68,37 @@ impl<O: QueueStore<Row = OrderRow>, S: QueueStore<Row = StopRow>> Book for Store
             return Err(PutError::Twice);
         }
         match record {
-            Record::Standing(o) => match o.side {
-                Side::Buy => put_item(&mut self.bids, o),
-                Side::Sell => put_item(&mut self.offers, o),
+            Record::Standing(order) => match order.side {
+                Side::Buy => put_item(&mut self.bids, order),
+                Side::Sell => put_item(&mut self.offers, order),
             },
-            Record::Waiting(x) => match x.order.side {
-                Side::Buy => put_item(&mut self.buys, x),
-                Side::Sell => put_item(&mut self.sells, x),
+            Record::Waiting(stop) => match stop.order.side {
+                Side::Buy => put_item(&mut self.buys, stop),
+                Side::Sell => put_item(&mut self.sells, stop),
             },
         };
         Ok(())
     }
 
-    fn rewrite(&mut self, at: usize, record: Record) -> bool {
+    fn rewrite(&mut self, index: usize, record: Record) -> bool {
         match record {
-            Record::Standing(o) => match o.side {
-                Side::Buy => swap_item(&mut self.bids, at, o),
-                Side::Sell => swap_item(&mut self.offers, at, o),
+            Record::Standing(order) => match order.side {
+                Side::Buy => swap_item(&mut self.bids, index, order),
+                Side::Sell => swap_item(&mut self.offers, index, order),
             },
-            Record::Waiting(x) => match x.order.side {
-                Side::Buy => swap_item(&mut self.buys, at, x),
-                Side::Sell => swap_item(&mut self.sells, at, x),
+            Record::Waiting(stop) => match stop.order.side {
+                Side::Buy => swap_item(&mut self.buys, index, stop),
+                Side::Sell => swap_item(&mut self.sells, index, stop),
             },
         }
     }
 
-    fn take(&mut self, queue: Queue, at: usize) -> Option<Record> {
+    fn take(&mut self, queue: Queue, index: usize) -> Option<Record> {
         match queue {
-            Queue::Orders(Side::Buy) => take_item(&mut self.bids, at).map(Record::Standing),
-            Queue::Orders(Side::Sell) => take_item(&mut self.offers, at).map(Record::Standing),
-            Queue::Stops(Side::Buy) => take_item(&mut self.buys, at).map(Record::Waiting),
-            Queue::Stops(Side::Sell) => take_item(&mut self.sells, at).map(Record::Waiting),
+            Queue::Orders(Side::Buy) => take_item(&mut self.bids, index).map(Record::Standing),
+            Queue::Orders(Side::Sell) => take_item(&mut self.offers, index).map(Record::Standing),
+            Queue::Stops(Side::Buy) => take_item(&mut self.buys, index).map(Record::Waiting),
+            Queue::Stops(Side::Sell) => take_item(&mut self.sells, index).map(Record::Waiting),
         }
     }
 

@@ -1,8 +1,9 @@
-// Rows that stand for an item, an order or a stop, and stores of them.
-ghost use Rattle.std.specs.Prelude.{◌≡◌, ℕ, ◌<◌, ◌≤◌, true, false, map, length, if◌then◌else◌, nat_lt, slice_set, refl};
+// Stored rows, each of which is read as an item: an order or a stop; and stores of them.
+ghost use Rattle.std.specs.Prelude.{◌≡◌, ℕ, length, if◌then◌else◌, nat_lt, slice_set, refl};
 ghost use Rattle.std.specs.List.{slice_get, remove};
 ghost use Rattle.orders.specs.declared.rank.Rank.{Rank as RankValue};
 ghost use Rattle.orders.specs.Rows.{order_of, row_of, stop_of, stop_row_of};
+ghost use Rattle.books.specs.Contents.{stored_items};
 ghost use Rattle.books.specs.RankedLists.{put_by_rank, ranks_as, swap_allowed, index_of_number};
 ghost use Rattle.books.specs.Model.{rank_of, stop_rank_of};
 ghost use Rattle.orders.proofs.RowRoundTrip.{order_of_its_row, stop_of_its_row};
@@ -12,7 +13,8 @@ use orders::order::{Order, Stop};
 use orders::ranked::Ranked;
 use orders::row::{OrderRow, StopRow};
 
-// A plain row that stands for an item. Both ways go by From; the trait has them to tie them to its laws.
+/// A stored row, and the item that it is read as: an order or a stop. An item that is stored reads back, and has its row's rank and number.
+// Both ways are those of From; the trait has them so that its laws are about them.
 pub trait StoredRow: Ranked {
     type Item;
 
@@ -24,17 +26,19 @@ pub trait StoredRow: Ranked {
 
     ghost item_number: { Self.Item → ℕ };
 
+    /// The item that the row is read as.
     fn item(self) -> Self::Item
         ensures { result ≡ item self };
 
-    fn from_item(i: Self::Item) -> Self
-        ensures { result ≡ stored i };
+    /// The row that an item is stored as.
+    fn from_item(given: Self::Item) -> Self
+        ensures { result ≡ stored given };
 
-    ghost round_trip: { (i : Self.Item) → item (stored i) ≡ i };
+    ghost round_trip: { (given : Self.Item) → item (stored given) ≡ given };
 
-    ghost same_rank_as_item: { (x : Self) → item_rank (item x) ≡ Self.Ranked.rank x };
+    ghost same_rank_as_item: { (row : Self) → item_rank (item row) ≡ Self.Ranked.rank row };
 
-    ghost numbers: { (x : Self) → item_number (item x) ≡ Self.Numbered.number x };
+    ghost numbers: { (row : Self) → item_number (item row) ≡ Self.Numbered.number row };
 }
 
 impl StoredRow for OrderRow {
@@ -46,20 +50,20 @@ impl StoredRow for OrderRow {
 
     ghost item_rank = { rank_of };
 
-    ghost item_number = { λ o. o.number };
+    ghost item_number = { λ order. order.number };
 
     ghost round_trip = { order_of_its_row };
 
-    ghost same_rank_as_item = { λ x. refl };
+    ghost same_rank_as_item = { λ row. refl };
 
-    ghost numbers = { λ x. refl };
+    ghost numbers = { λ row. refl };
 
     fn item(self) -> Order {
         Order::from(self)
     }
 
-    fn from_item(i: Order) -> OrderRow {
-        OrderRow::from(i)
+    fn from_item(order: Order) -> OrderRow {
+        OrderRow::from(order)
     }
 }
 
@@ -72,78 +76,101 @@ impl StoredRow for StopRow {
 
     ghost item_rank = { stop_rank_of };
 
-    ghost item_number = { λ s. s.order.number };
+    ghost item_number = { λ stop. stop.order.number };
 
     ghost round_trip = { stop_of_its_row };
 
-    ghost same_rank_as_item = { λ x. refl };
+    ghost same_rank_as_item = { λ row. refl };
 
-    ghost numbers = { λ x. refl };
+    ghost numbers = { λ row. refl };
 
     fn item(self) -> Stop {
         Stop::from(self)
     }
 
-    fn from_item(i: Stop) -> StopRow {
-        StopRow::from(i)
+    fn from_item(stop: Stop) -> StopRow {
+        StopRow::from(stop)
     }
 }
 
+/// Count and capacity of a store.
 pub fn size_of<T: StoredRow, L: QueueStore<Row = T>>(store: &L) -> (usize, usize)
-    ensures { result ≡ (length (map T.StoredRow.item (L.QueueStore.contents store.now).rows), (L.QueueStore.contents store.now).capacity) }
+    ensures { let items = stored_items T.StoredRow.item L.QueueStore.contents store.now in
+        result ≡ (length items, (L.QueueStore.contents store.now).capacity) }
 {
     store.size()
 }
 
+/// The item at a place of a store.
 #[inline(always)]
-pub fn item_at<T: StoredRow, L: QueueStore<Row = T>>(store: &L, at: usize) -> Option<T::Item>
-    ensures { result ≡ slice_get (map T.StoredRow.item (L.QueueStore.contents store.now).rows) at }
+pub fn item_at<T: StoredRow, L: QueueStore<Row = T>>(store: &L, index: usize) -> Option<T::Item>
+    ensures { let items = stored_items T.StoredRow.item L.QueueStore.contents store.now in
+        result ≡ slice_get items index }
 {
-    store.look(at).map(|row| row.item())
+    store.look(index).map(|row| row.item())
 }
 
-pub fn find_item<T: StoredRow, L: QueueStore<Row = T>>(store: &L, n: u32) -> Option<usize>
-    ensures { result ≡ index_of_number T.StoredRow.item_number n (map T.StoredRow.item (L.QueueStore.contents store.now).rows) }
+/// The place of the first item of a store with a number.
+pub fn find_item<T: StoredRow, L: QueueStore<Row = T>>(store: &L, number: u32) -> Option<usize>
+    ensures { let items = stored_items T.StoredRow.item L.QueueStore.contents store.now in
+        result ≡ index_of_number T.StoredRow.item_number number items }
 {
-    store.find(n)
+    store.find(number)
 }
 
-pub fn put_item<T: StoredRow, L: QueueStore<Row = T>>(store: &mut L, i: T::Item) -> bool
-    ensures answer { result ≡ nat_lt (length (map T.StoredRow.item (L.QueueStore.contents store.old).rows)) (L.QueueStore.contents store.old).capacity }
-    ensures state { map T.StoredRow.item (L.QueueStore.contents store.new).rows ≡ (if result then put_by_rank T.StoredRow.item_rank i (map T.StoredRow.item (L.QueueStore.contents store.old).rows) else map T.StoredRow.item (L.QueueStore.contents store.old).rows) }
-    ensures unchanged { (L.QueueStore.contents store.new).capacity ≡ (L.QueueStore.contents store.old).capacity }
+/// Puts an item into a store, before the first that ranks behind it, or last; false where the store is full.
+pub fn put_item<T: StoredRow, L: QueueStore<Row = T>>(store: &mut L, item: T::Item) -> bool
+    ensures answer { let before = stored_items T.StoredRow.item L.QueueStore.contents store.old in
+        result ≡ nat_lt (length before) (L.QueueStore.contents store.old).capacity }
+    ensures state { let before = stored_items T.StoredRow.item L.QueueStore.contents store.old in
+        let after = stored_items T.StoredRow.item L.QueueStore.contents store.new in
+        after ≡ (if result then put_by_rank T.StoredRow.item_rank item before else before) }
+    ensures unchanged { (L.QueueStore.contents store.new).capacity ≡
+        (L.QueueStore.contents store.old).capacity }
 {
-    store.put(T::from_item(i))
+    store.put(T::from_item(item))
 }
 
-pub fn take_item<T: StoredRow, L: QueueStore<Row = T>>(store: &mut L, at: usize) -> Option<T::Item>
-    ensures answer { result ≡ slice_get (map T.StoredRow.item (L.QueueStore.contents store.old).rows) at }
-    ensures state { map T.StoredRow.item (L.QueueStore.contents store.new).rows ≡ remove (map T.StoredRow.item (L.QueueStore.contents store.old).rows) at }
-    ensures unchanged { (L.QueueStore.contents store.new).capacity ≡ (L.QueueStore.contents store.old).capacity }
+/// The item at a place leaves the store and is the answer.
+pub fn take_item<T: StoredRow, L: QueueStore<Row = T>>(
+    store: &mut L,
+    index: usize,
+) -> Option<T::Item>
+    ensures answer { let before = stored_items T.StoredRow.item L.QueueStore.contents store.old in
+        result ≡ slice_get before index }
+    ensures state { let before = stored_items T.StoredRow.item L.QueueStore.contents store.old in
+        stored_items T.StoredRow.item L.QueueStore.contents store.new ≡ remove before index }
+    ensures unchanged { (L.QueueStore.contents store.new).capacity ≡
+        (L.QueueStore.contents store.old).capacity }
 {
-    store.take(at).map(|row| row.item())
+    store.take(index).map(|row| row.item())
 }
 
-// Whether x has the rank of what was looked at.
-pub fn ranks_as<T: Ranked + Copy>(seen: Option<T>, x: T) -> bool
-    ensures { result ≡ ranks_as T.Ranked.rank x seen }
+/// Whether the answer of a look has the rank of a row, and with it its number.
+pub fn ranks_as<T: Ranked + Copy>(answer: Option<T>, row: T) -> bool
+    ensures { result ≡ ranks_as T.Ranked.rank row answer }
 {
-    seen.is_some_and(|y| y.rank() == x.rank())
+    answer.is_some_and(|present| present.rank() == row.rank())
 }
 
+/// Swaps the item at a place for one of the same rank and number; false where it has another, or none is there.
 pub fn swap_item<T: StoredRow + Copy, L: QueueStore<Row = T>>(
     store: &mut L,
-    at: usize,
-    i: T::Item,
+    index: usize,
+    item: T::Item,
 ) -> bool
-    ensures answer { result ≡ swap_allowed T.StoredRow.item_rank at i (map T.StoredRow.item (L.QueueStore.contents store.old).rows) }
-    ensures state { map T.StoredRow.item (L.QueueStore.contents store.new).rows ≡ (if result then slice_set (map T.StoredRow.item (L.QueueStore.contents store.old).rows) at i else map T.StoredRow.item (L.QueueStore.contents store.old).rows) }
-    ensures unchanged { (L.QueueStore.contents store.new).capacity ≡ (L.QueueStore.contents store.old).capacity }
+    ensures answer { let before = stored_items T.StoredRow.item L.QueueStore.contents store.old in
+        result ≡ swap_allowed T.StoredRow.item_rank index item before }
+    ensures state { let before = stored_items T.StoredRow.item L.QueueStore.contents store.old in
+        let after = stored_items T.StoredRow.item L.QueueStore.contents store.new in
+        after ≡ (if result then slice_set before index item else before) }
+    ensures unchanged { (L.QueueStore.contents store.new).capacity ≡
+        (L.QueueStore.contents store.old).capacity }
 {
-    let x = T::from_item(i);
-    let fits = ranks_as(store.look(at), x);
+    let row = T::from_item(item);
+    let fits = ranks_as(store.look(index), row);
     if fits {
-        store.replace(at, x);
+        store.replace(index, row);
     }
     fits
 }

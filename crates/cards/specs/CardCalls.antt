@@ -120,7 +120,7 @@ module _ (h : Held) (q : Queues) where
   fits_same i (Waiting x) = sym (ap (swap_allowed stop_rank_of i x) (waits_at x.order.side) ∙ over_fits stop_rank_of (at x.order.side h.stops) (at x.order.side q.waits) i x)
 
   pub covered_bounded : Bounded q → Bounded Q
-  covered_bounded b = record { within = λ n. rw (← count_same n, ← room_same n) (b.within n); few = λ n. rw (← room_same n) (b.few n) }
+  covered_bounded b = record { count_within = λ n. rw (← count_same n, ← room_same n) (b.count_within n); capacity_within = λ n. rw (← room_same n) (b.capacity_within n) }
 
   -- changes past the first record
   set_later : (i : ℕ) (r : Record) → covered h (record_set (suc i) r q) ≡ record_set (suc i) r Q

@@ -29,7 +29,8 @@ pub record InBounds (row : OrderRow) : Type 0 where
   pub quantity_within_most : row.quantity ≤ MOST_LOTS
   pub whole_shown : row.disclosed ≡ 0 → row.shown ≡ row.open_lots
   pub part_within_disclosed : 1 ≤ row.disclosed → row.shown ≤ row.disclosed
-  pub hidden_within_parts : 1 ≤ row.disclosed → row.open_lots ≤ row.shown + HIDDEN_PARTS * row.disclosed
+  pub hidden_within_parts : 1 ≤ row.disclosed →
+      row.open_lots ≤ row.shown + HIDDEN_PARTS * row.disclosed
 
 pub in_bounds_facts : (row : OrderRow) → in_bounds row ≡ true → InBounds row
 in_bounds_facts row e =
@@ -37,14 +38,18 @@ in_bounds_facts row e =
     let b = and_parts _ _ a.1 in
     let c = and_parts _ _ b.1 in
     let d = and_parts _ _ c.1 in
+    let most = row.shown + HIDDEN_PARTS * row.disclosed in
+    let parts = λ (h : 1 ≤ row.disclosed).
+    and_parts (nat_le row.shown row.disclosed) (nat_le row.open_lots most)
+    (rw (ne_eqb row.disclosed 0 (λ z. omega arith)) at d.1) in
     record {
       some_shown = leb-true 1 row.shown a.0;
       shown_within_open = leb-true row.shown row.open_lots b.0;
       open_within_quantity = leb-true row.open_lots row.quantity c.0;
       quantity_within_most = leb-true row.quantity MOST_LOTS d.0;
       whole_shown = λ h. eqb-true row.shown row.open_lots (rw (eq-eqb _ 0 h) at d.1);
-      part_within_disclosed = λ h. leb-true row.shown row.disclosed (and_parts _ _ (rw (ne_eqb row.disclosed 0 (λ z. omega arith)) at d.1)).0;
-      hidden_within_parts = λ h. leb-true row.open_lots (row.shown + HIDDEN_PARTS * row.disclosed) (and_parts _ _ (rw (ne_eqb row.disclosed 0 (λ z. omega arith)) at d.1)).1;
+      part_within_disclosed = λ h. leb-true row.shown row.disclosed (parts h).0;
+      hidden_within_parts = λ h. leb-true row.open_lots most (parts h).1;
     }
 
 -- the same test, whose body a proof sees only where it says so

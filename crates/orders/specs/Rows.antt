@@ -34,7 +34,8 @@ sound_row keeps row = record row {
   disclosed = if keeps then row.disclosed else 0;
 }
 
-sound_row_either : (row : OrderRow) (keeps : Bool) → keeps_bounds row ≡ keeps → InBounds (sound_row keeps row)
+sound_row_either : (row : OrderRow) (keeps : Bool) →
+    keeps_bounds row ≡ keeps → InBounds (sound_row keeps row)
 sound_row_either row true e = keeps_bounds_facts row e
 sound_row_either row false e = record {
   some_shown = omega arith;

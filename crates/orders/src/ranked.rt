@@ -82,7 +82,8 @@ impl Ranked for OrderRow {
 
     ghost irreflexive = { λ a. ranks_ahead_irreflexive (order_rank a) };
 
-    ghost transitive = { λ a b c. ranks_ahead_transitive (order_rank a) (order_rank b) (order_rank c) };
+    ghost transitive = { λ a b c.
+        ranks_ahead_transitive (order_rank a) (order_rank b) (order_rank c) };
 
     ghost connected = { λ a b. ranks_ahead_connected (order_rank a) (order_rank b) };
 
@@ -120,7 +121,8 @@ impl Ranked for StopRow {
 
     ghost irreflexive = { λ a. ranks_ahead_irreflexive (stop_rank a) };
 
-    ghost transitive = { λ a b c. ranks_ahead_transitive (stop_rank a) (stop_rank b) (stop_rank c) };
+    ghost transitive = { λ a b c.
+        ranks_ahead_transitive (stop_rank a) (stop_rank b) (stop_rank c) };
 
     ghost connected = { λ a b. ranks_ahead_connected (stop_rank a) (stop_rank b) };
 

@@ -39,7 +39,7 @@ FreeSlot ss None = length (slot_records ss) ≡ length ss
 
 -- the records of 32 slots
 abbrev pub slot_contents : {X : Type 0} → List (Option X) → Contents X
-slot_contents ss = record { rows = take 32 (slot_records ss); capacity = 32; within = at_most 32 (slot_records ss); few = omega arith }
+slot_contents ss = record { rows = take 32 (slot_records ss); capacity = 32; count_within = at_most 32 (slot_records ss); capacity_within = omega arith }
   where
     at_most : {X : Type 0} (n : ℕ) (xs : List X) → length (take n xs) ≤ n
     at_most n xs = simp length-take (omega arith)

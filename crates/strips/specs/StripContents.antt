@@ -21,6 +21,6 @@ abbrev pub strip_contents : {X : Type 0} {n : Ghosts X} → RankedRow X n → Co
 strip_contents r = record {
   rows = ranked r.count r.rows.now;
   capacity = min 1000000 (length r.rows.now);
-  within = ranked_within r.count r.rows.now;
-  few = omega arith;
+  count_within = ranked_within r.count r.rows.now;
+  capacity_within = omega arith;
 }

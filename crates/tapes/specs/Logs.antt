@@ -18,4 +18,6 @@ free_lines log = log.limit - length log.lines
 -- one line more, or the same where the tape is full
 abbrev pub line_added : Line → Log → Log
 line_added line log =
-    record log { lines = if nat_lt (length log.lines) log.limit then line ∷ log.lines else log.lines }
+    record log {
+      lines = if nat_lt (length log.lines) log.limit then line ∷ log.lines else log.lines;
+    }

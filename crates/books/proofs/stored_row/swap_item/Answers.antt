@@ -8,17 +8,17 @@ pub returns-then-fits-clause-state : goal.returns-then-fits-clause-state
 returns-then-fits-clause-state g c =
     let k = g.T.StoredRow in
     let xs = (g.L.QueueStore.contents c.args.store.now).rows in
-    let round_trip : k.item c.from_item-x.result ≡ c.args.i = ap k.item c.from_item-x.ensures ∙ g.met.T.StoredRow.round_trip c.args.i in
-    let left : map k.item (g.L.QueueStore.contents c.replace.new.self).rows ≡ slice_set (map k.item xs) c.args.at c.args.i =
+    let round_trip : k.item c.from_item-row.result ≡ c.args.item = ap k.item c.from_item-row.ensures ∙ g.met.T.StoredRow.round_trip c.args.item in
+    let left : map k.item (g.L.QueueStore.contents c.replace.new.self).rows ≡ slice_set (map k.item xs) c.args.index c.args.item =
     ap (map k.item) c.replace.ensures.state
-    ∙ map-set k.item xs c.args.at c.from_item-x.result
-    ∙ ap (slice_set (map k.item xs) c.args.at) round_trip in
+    ∙ map-set k.item xs c.args.index c.from_item-row.result
+    ∙ ap (slice_set (map k.item xs) c.args.index) round_trip in
     search rules
 
 pub returns-else-fits-clause-answer : goal.returns-else-fits-clause-answer
 returns-else-fits-clause-answer g c =
     let k = g.T.StoredRow in
     let xs = (g.L.QueueStore.contents c.args.store.now).rows in
-    let round_trip : k.item c.from_item-x.result ≡ c.args.i = ap k.item c.from_item-x.ensures ∙ g.met.T.StoredRow.round_trip c.args.i in
-    c.ranks_as-fits.ensures ∙ ap (ranks_as g.T.Ranked.rank c.from_item-x.result) c.look.ensures
-    ∙ swap_map k.item g.T.Ranked.rank k.item_rank g.met.T.StoredRow.same_rank_as_item xs c.args.at c.from_item-x.result c.args.i round_trip
+    let round_trip : k.item c.from_item-row.result ≡ c.args.item = ap k.item c.from_item-row.ensures ∙ g.met.T.StoredRow.round_trip c.args.item in
+    c.ranks_as-fits.ensures ∙ ap (ranks_as g.T.Ranked.rank c.from_item-row.result) c.look.ensures
+    ∙ swap_map k.item g.T.Ranked.rank k.item_rank g.met.T.StoredRow.same_rank_as_item xs c.args.index c.from_item-row.result c.args.item round_trip

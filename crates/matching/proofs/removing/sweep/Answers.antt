@@ -36,7 +36,7 @@ overflow_add-at g c =
     let n = c.args.queue in
     let w : c.loop-record.at < count n q = seen_within n c.loop-record.at q c.in-Some.record (sym c.look.ensures ∙ c.in-Some.is) in
     let b = g.met.B.Book.bounded c.loop-record.book in
-    omega (arith, b.within n, b.few n)
+    omega (arith, b.count_within n, b.capacity_within n)
 
 pub loop-record-smaller : goal.loop-record-smaller
 loop-record-smaller g c =
