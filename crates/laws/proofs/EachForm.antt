@@ -31,9 +31,9 @@ use Rattle.matching.specs.Entering.{enter}
 use Rattle.matching.specs.Changing.{new_quantity, new_disclosed, lots_traded}
 use Rattle.validation.specs.declared.changes.AmendRequest.{AmendRequest}
 use Rattle.validation.specs.Combinations.{disclosed_barred}
-use Rattle.validation.specs.Entries.{read_entry}
-use Rattle.validation.specs.Changes.{read_change}
-use Rattle.validation.specs.Removals.{read_cancel, read_mass_cancel}
+use Rattle.validation.specs.Entries.{validate_entry}
+use Rattle.validation.specs.Changes.{validate_change}
+use Rattle.validation.specs.Removals.{validate_cancel, validate_mass_cancel}
 use Rattle.venue.specs.declared.lookup.Found.{Found}
 use Rattle.venue.specs.declared.plan.AmendPlan.{AmendPlan}
 use Rattle.venue.specs.Rooms.{needed, lines_free, stamps_free}
@@ -114,11 +114,11 @@ known_ok firm number q = go (found number q)
 -- entry
 
 abbrev pub EntryGiven : EntryForm → MatchState → NewOrder → Type 0
-EntryGiven form f a = Proper a × Supplied f × (read_entry form ≡ Ok a)
+EntryGiven form f a = Proper a × Supplied f × (validate_entry form ≡ Ok a)
 
 pub entry_given : (form : EntryForm) (f : MatchState) → InOk (EntryGiven form f) (entry_answer form f)
 entry_given form f =
-    ok_then (λ a. Proper a × (read_entry form ≡ Ok a)) (EntryGiven form f) (read_entry form) _ (with_eq Proper (read_entry form) (entry_ok form)) (λ a p.
+    ok_then (λ a. Proper a × (validate_entry form ≡ Ok a)) (EntryGiven form f) (validate_entry form) _ (with_eq Proper (validate_entry form) (entry_ok form)) (λ a p.
     ok_then _ (EntryGiven form f) (lines_free f.queues f.tape) _ (lines_ok f) (λ _ l.
     ok_then _ (EntryGiven form f) (stamps_free f.queues f.session) _ (stamps_ok f) (λ _ s.
     ok_then _ (EntryGiven form f) (client_free a.firm a.client None f.queues) _ (any_ok (client_free a.firm a.client None f.queues)) (λ _ _.
@@ -182,8 +182,8 @@ ChangeGiven form f p = Permitted p.change p.order × Supplied f × (slice_get (a
 
 pub change_given : (form : ChangeForm) (f : MatchState) → ConsistentQueues f.queues → InOk (ChangeGiven form f) (change_answer form f)
 change_given form f g =
-    ok_then (λ (a : AmendRequest). WithinRanges a.change × (read_change form ≡ Ok a)) (ChangeGiven form f) (read_change form) _
-    (with_eq (λ (a : AmendRequest). WithinRanges a.change) (read_change form) (change_ok form)) (λ a w.
+    ok_then (λ (a : AmendRequest). WithinRanges a.change × (validate_change form ≡ Ok a)) (ChangeGiven form f) (validate_change form) _
+    (with_eq (λ (a : AmendRequest). WithinRanges a.change) (validate_change form) (change_ok form)) (λ a w.
     ok_then _ (ChangeGiven form f) (lines_free f.queues f.tape) _ (lines_ok f) (λ _ l.
     ok_then _ (ChangeGiven form f) (stamps_free f.queues f.session) _ (stamps_ok f) (λ _ s.
     ok_then (Looks f.queues) (ChangeGiven form f) (firms_record a.firm a.number f.queues) _ (known_ok a.firm a.number f.queues) (λ x k.
@@ -212,7 +212,7 @@ spare_from f h = omega arith
 
 cancel_given : (form : CancelForm) (f : MatchState) → InOk (λ x. Spare f × Looks f.queues x) (cancel_answer form f.queues f.tape)
 cancel_given form f =
-    ok_then _ (λ x. Spare f × Looks f.queues x) (read_cancel form) _ (any_ok (read_cancel form)) (λ a _.
+    ok_then _ (λ x. Spare f × Looks f.queues x) (validate_cancel form) _ (any_ok (validate_cancel form)) (λ a _.
     ok_then _ (λ x. Spare f × Looks f.queues x) (lines_free f.queues f.tape) _ (lines_ok f) (λ _ l.
     both (firms_record a.firm a.number f.queues) (spare_from f l) (known_ok a.firm a.number f.queues)))
   where
@@ -232,7 +232,7 @@ ends_cancel form f t c m = go (cancel_answer form f.queues f.tape) (cancel_given
 
 mass_given : (form : MassCancelForm) (f : MatchState) → InOk (λ _. Spare f) (mass_cancel_answer form f.queues f.tape)
 mass_given form f =
-    ok_then _ (λ _. Spare f) (read_mass_cancel form) _ (any_ok (read_mass_cancel form)) (λ w _.
+    ok_then _ (λ _. Spare f) (validate_mass_cancel form) _ (any_ok (validate_mass_cancel form)) (λ w _.
     ok_then _ (λ _. Spare f) (lines_free f.queues f.tape) _ (lines_ok f) (λ _ l. spare_from f l))
 
 pub ends_mass : (form : MassCancelForm) (f : MatchState) (t : Tally) → Quiescent f → TallyAgrees t f →

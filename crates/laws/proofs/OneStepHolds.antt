@@ -4,7 +4,7 @@ use Rattle.forms.specs.declared.form.Form.{Form}
 use Rattle.forms.specs.declared.form.Form.TheVariants.{Entry, Change, Cancel, MassCancel, Closing, Opening}
 use Rattle.matching.specs.declared.new_order.NewOrder.{NewOrder}
 use Rattle.matching.specs.Running.{total}
-use Rattle.validation.specs.Entries.{read_entry}
+use Rattle.validation.specs.Entries.{validate_entry}
 use Rattle.venue.specs.Days.{State, answer, step}
 use Rattle.laws.specs.Accounts.{traded_lots}
 use Rattle.laws.specs.Runs.{session_of}
@@ -19,7 +19,7 @@ smoothly form s day stamp q limit forms e = subst (λ (s : State). Trace (state_
 
 pub filled_by : (form : Form) (s : State) → StepFilled form s
 filled_by (Entry form) s = λ day stamp q limit forms e.
-    subst (λ (s : State). (a : NewOrder) → read_entry form ≡ Ok a → answer (Entry form) s ≡ Ok tt → Filled a (total (traded_lots (session_of s.day).next_stamp) (step (Entry form) s).tape.lines)) (sym e)
+    subst (λ (s : State). (a : NewOrder) → validate_entry form ≡ Ok a → answer (Entry form) s ≡ Ok tt → Filled a (total (traded_lots (session_of s.day).next_stamp) (step (Entry form) s).tape.lines)) (sym e)
     (λ a h k. always_filled day stamp q limit forms form a h k)
 filled_by (Change form) s = tt
 filled_by (Cancel form) s = tt

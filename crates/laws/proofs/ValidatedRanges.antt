@@ -16,8 +16,8 @@ use Rattle.validation.specs.declared.cells.TypeCode.TheVariants.{Limit as LimitT
 use Rattle.forms.specs.Results.{and_then}
 use Rattle.validation.specs.Cells.{blanks_first, in_range, if_filled, firm_in, identifier_in, lots_in, number_in, investor_in, tag_in, side_in, validity_in, price_in}
 use Rattle.validation.specs.Combinations.{is_stop, disclosed_barred, barred}
-use Rattle.validation.specs.Entries.{wrong_blank, type_in_cell, order_type_of, typed_entry, if_allowed, read_entry}
-use Rattle.validation.specs.Changes.{wrong_change_blank, typed_change, validity_barred, if_lasting, read_change}
+use Rattle.validation.specs.Entries.{wrong_blank, type_in_cell, order_type_of, typed_entry, if_allowed, validate_entry}
+use Rattle.validation.specs.Changes.{wrong_change_blank, typed_change, validity_barred, if_lasting, validate_change}
 use Rattle.laws.proofs.ConsistentQueues.{Low}
 use Rattle.laws.proofs.RowsInBounds.{Allowed}
 use Rattle.laws.proofs.EntryArrives.{OrderTypeLow, Proper}
@@ -102,7 +102,7 @@ allowed_ok a r = cond_both (barred a) (Err _) (Ok a) (InOk Proper) (λ _. tt)
     let d = or_parts (ltb a.quantity a.minimum) (disclosed_barred a.quantity a.disclosed) c.1 in
     record { allowed = allowed_from a.quantity a.disclosed r.some r.few d.1; low = r.low })
 
-pub entry_ok : (f : EntryForm) → InOk Proper (read_entry f)
+pub entry_ok : (f : EntryForm) → InOk Proper (validate_entry f)
 entry_ok f = go (wrong_blank f)
   where
     go : (m : Option ℕ) → InOk Proper (blanks_first m (and_then (typed_entry f) if_allowed))
@@ -128,7 +128,7 @@ typed_change_ok f =
     skip AmendRequestRanged (if_filled (validity_in 7) f.validity) _ (λ validity.
     record { price = p; quantity = q })))))))
 
-pub change_ok : (f : ChangeForm) → InOk AmendRequestRanged (read_change f)
+pub change_ok : (f : ChangeForm) → InOk AmendRequestRanged (validate_change f)
 change_ok f = go (wrong_change_blank f)
   where
     lasting : (a : AmendRequest) → AmendRequestRanged a → InOk AmendRequestRanged (if_lasting a)

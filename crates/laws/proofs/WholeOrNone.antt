@@ -25,7 +25,7 @@ use Rattle.matching.specs.Entering.{entered_order, all_or_none, falls_short, acc
 use Rattle.forms.specs.Results.{and_then}
 use Rattle.validation.specs.Cells.{blanks_first}
 use Rattle.validation.specs.Combinations.{is_stop, disclosed_barred, barred}
-use Rattle.validation.specs.Entries.{wrong_blank, typed_entry, if_allowed, read_entry}
+use Rattle.validation.specs.Entries.{wrong_blank, typed_entry, if_allowed, validate_entry}
 use Rattle.venue.specs.declared.day.Day.{Day}
 use Rattle.venue.specs.declared.day.Day.TheVariants.{Open, Closed}
 use Rattle.venue.specs.Steps.{answered, after_answer, entry_answer}
@@ -61,7 +61,7 @@ terms_ok a = cond_both (barred a) (Err Barred) (Ok a) (InOk OpenTerms) (λ _. tt
     let d = or_parts (ltb a.quantity a.minimum) (disclosed_barred a.quantity a.disclosed) c.1 in
     record { stop = b.0; least = ltb-false a.quantity a.minimum d.0 })
 
-entry_terms : (form : EntryForm) → InOk OpenTerms (read_entry form)
+entry_terms : (form : EntryForm) → InOk OpenTerms (validate_entry form)
 entry_terms form = go (wrong_blank form)
   where
     go : (m : Option ℕ) → InOk OpenTerms (blanks_first m (and_then (typed_entry form) if_allowed))
@@ -170,7 +170,7 @@ module _ (a : NewOrder) (f : MatchState) (p : Proper a) (u : OpenTerms a) (s : S
 -- in every state of a run
 
 filled_told : (form : EntryForm) (f : MatchState) (a : NewOrder) (r : Result NewOrder Refusal) → Quiescent f → InOk (EntryGiven form f) r → OpenTerms a →
-    read_entry form ≡ Ok a → answered r ≡ Ok tt → Filled a (traded_on f.session.next_stamp (after_answer enter r f))
+    validate_entry form ≡ Ok a → answered r ≡ Ok tt → Filled a (traded_on f.session.next_stamp (after_answer enter r f))
 filled_told form f a (Ok b) c h u e k =
     let z : b ≡ a = same b a (sym h.2 ∙ e) in
     subst (λ (x : NewOrder). Filled a (traded_on f.session.next_stamp (enter x f))) (sym z) (filled_enter a f (subst Proper z h.0) u h.1 c)
@@ -179,12 +179,12 @@ filled_told form f a (Ok b) c h u e k =
     same x y e = cc
 filled_told form f a (Err x) c h u e k = let z : ◌≡◌ {A = ℕ} 0 1 = cc in absurd (omega arith)
 
-filled_on : (d : Day) (form : EntryForm) (q : Queues) (r : Log) (a : NewOrder) → Quiescent (between_steps q r (session_of d)) → OpenTerms a → read_entry form ≡ Ok a →
+filled_on : (d : Day) (form : EntryForm) (q : Queues) (r : Log) (a : NewOrder) → Quiescent (between_steps q r (session_of d)) → OpenTerms a → validate_entry form ≡ Ok a →
     answer_on d (Entry form) q r ≡ Ok tt → Filled a (total (traded_lots (session_of d).next_stamp) (step_on d (Entry form) q r).tape.lines)
 filled_on (Open o) form q r a c u e k =
     let f : MatchState = between_steps q r o.session in
     filled_told form f a (entry_answer form f) c (entry_given form f) u e k
-filled_on (Closed o) form q r a c u e k = absurd (never (read_entry form) k)
+filled_on (Closed o) form q r a c u e k = absurd (never (validate_entry form) k)
   where
     never : (x : Result NewOrder Refusal) → ◌≡◌ {A = Result (Unit {0}) Refusal} (and_then {A = NewOrder} {B = Unit {0}} x (λ _. Err WrongDay)) (Ok tt) → ⊥
     never (Ok x) z = let y : ◌≡◌ {A = ℕ} 0 1 = cc in omega arith

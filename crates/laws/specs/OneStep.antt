@@ -5,7 +5,7 @@ use Rattle.forms.specs.declared.form.Form.{Form}
 use Rattle.forms.specs.declared.form.Form.TheVariants.{Entry, Change, Cancel, MassCancel, Closing, Opening}
 use Rattle.matching.specs.declared.new_order.NewOrder.{NewOrder}
 use Rattle.matching.specs.Running.{total}
-use Rattle.validation.specs.Entries.{read_entry}
+use Rattle.validation.specs.Entries.{validate_entry}
 use Rattle.venue.specs.Days.{State, set_up, answer, step}
 use Rattle.laws.specs.Accounts.{traded_lots}
 use Rattle.laws.specs.Runs.{session_of, after}
@@ -20,7 +20,7 @@ StepWithinRoom form s = (day stamp : ℕ) (q : Queues) (limit : ℕ) (forms : Li
 abbrev pub StepFilled : Form → State → Type 0
 StepFilled (Entry form) s =
     (day stamp : ℕ) (q : Queues) (limit : ℕ) (forms : List Form) → s ≡ after forms (set_up day stamp q limit) →
-    (a : NewOrder) → read_entry form ≡ Ok a → answer (Entry form) s ≡ Ok tt → Filled a (total (traded_lots (session_of s.day).next_stamp) (step (Entry form) s).tape.lines)
+    (a : NewOrder) → validate_entry form ≡ Ok a → answer (Entry form) s ≡ Ok tt → Filled a (total (traded_lots (session_of s.day).next_stamp) (step (Entry form) s).tape.lines)
 StepFilled (Change form) s = Unit {0}
 StepFilled (Cancel form) s = Unit {0}
 StepFilled (MassCancel form) s = Unit {0}

@@ -12,7 +12,7 @@ use Rattle.matching.specs.declared.new_order.NewOrder.{NewOrder}
 use Rattle.matching.specs.Running.{total, parts}
 use Rattle.matching.specs.Reach.{reach}
 use Rattle.matching.specs.Entering.{all_or_none}
-use Rattle.validation.specs.Entries.{read_entry}
+use Rattle.validation.specs.Entries.{validate_entry}
 use Rattle.venue.specs.Days.{State, set_up, answer, step}
 use Rattle.laws.specs.Accounts.{traded_lots}
 use Rattle.laws.specs.Runs.{session_of, after}
@@ -44,4 +44,4 @@ abbrev pub AlwaysFilled : Type 0
 AlwaysFilled =
     (day stamp : ℕ) (q : Queues) (limit : ℕ) (forms : List Form) (form : EntryForm) (a : NewOrder) →
     (let s : State = after forms (set_up day stamp q limit) in
-    read_entry form ≡ Ok a → answer (Entry form) s ≡ Ok tt → Filled a (total (traded_lots (session_of s.day).next_stamp) (step (Entry form) s).tape.lines))
+    validate_entry form ≡ Ok a → answer (Entry form) s ≡ Ok tt → Filled a (total (traded_lots (session_of s.day).next_stamp) (step (Entry form) s).tape.lines))

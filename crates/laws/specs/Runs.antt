@@ -11,8 +11,8 @@ use Rattle.forms.specs.declared.refusal.Refusal.{Refusal}
 use Rattle.matching.specs.declared.new_order.NewOrder.{NewOrder}
 use Rattle.matching.specs.declared.session.Session.{Session}
 use Rattle.validation.specs.declared.changes.AmendRequest.{AmendRequest}
-use Rattle.validation.specs.Entries.{read_entry}
-use Rattle.validation.specs.Changes.{read_change}
+use Rattle.validation.specs.Entries.{validate_entry}
+use Rattle.validation.specs.Changes.{validate_change}
 use Rattle.venue.specs.declared.day.Day.{Day}
 use Rattle.venue.specs.declared.day.Day.TheVariants.{Open, Closed}
 use Rattle.venue.specs.Days.{State, at_least_1, set_up, answer, step}
@@ -49,8 +49,8 @@ change_requested (Ok a) = change a.change
 change_requested (Err e) = removal
 
 abbrev pub request : Form → Request
-request (Entry form) = entry_requested (read_entry form)
-request (Change form) = change_requested (read_change form)
+request (Entry form) = entry_requested (validate_entry form)
+request (Change form) = change_requested (validate_change form)
 request (Cancel form) = removal
 request (MassCancel form) = removal
 request Closing = removal

@@ -24,7 +24,7 @@ use Rattle.matching.specs.declared.amendment.Amendment.{Amendment}
 use Rattle.matching.specs.Model.{MatchState, Event, accepts, accepts_stop, accepts_and_cancels, accepts_unmatched, cancels_incoming, trades, rests, triggers, cancels_resting, amends, requeues, RestingOutcome, filled, refilled, reduced, outcome, trade_lots, apply, line_A, line_R, line_S, line_C, line_T}
 use Rattle.matching.specs.Entering.{entered_order}
 use Rattle.matching.specs.Changing.{new_quantity, new_disclosed, new_open_lots, loses_turn, amended_order, requeued_order}
-use Rattle.validation.specs.Entries.{read_entry}
+use Rattle.validation.specs.Entries.{validate_entry}
 use Rattle.venue.specs.declared.plan.AmendPlan.{AmendPlan}
 use Rattle.venue.specs.Steps.{change_answer}
 use Rattle.venue.specs.Days.{State, between_steps, set_up, step}
@@ -140,7 +140,7 @@ abbrev pub AsRequested : Entry → Order → Type 0
 AsRequested a o = (o.quantity ≡ a.quantity) × (o.open_lots ≡ a.quantity) × (o.shown ≡ showing a.disclosed a.quantity) × (o.disclosed ≡ a.disclosed)
 
 abbrev pub EnteredAsRequested : Type 0
-EnteredAsRequested = (form : EntryForm) (a : Entry) → read_entry form ≡ Ok a → (price : Price) (stamp : ℕ) → AsRequested a (entered_order a price stamp)
+EnteredAsRequested = (form : EntryForm) (a : Entry) → validate_entry form ≡ Ok a → (price : Price) (stamp : ℕ) → AsRequested a (entered_order a price stamp)
 
 -- an order that is changed is as the change asks, in both ways
 

@@ -33,5 +33,5 @@ validity_barred (Some v) = is_immediate v
 abbrev pub if_lasting : AmendRequest → Result AmendRequest Refusal
 if_lasting a = cond (validity_barred a.change.validity) (Err Barred) (Ok a)
 
-abbrev pub read_change : ChangeForm → Result AmendRequest Refusal
-read_change f = blanks_first (wrong_change_blank f) (and_then (typed_change f) if_lasting)
+abbrev pub validate_change : ChangeForm → Result AmendRequest Refusal
+validate_change f = blanks_first (wrong_change_blank f) (and_then (typed_change f) if_lasting)

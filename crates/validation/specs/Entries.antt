@@ -85,5 +85,5 @@ typed_entry f =
 abbrev pub if_allowed : NewOrder → Result NewOrder Refusal
 if_allowed a = cond (barred a) (Err Barred) (Ok a)
 
-abbrev pub read_entry : EntryForm → Result NewOrder Refusal
-read_entry f = blanks_first (wrong_blank f) (and_then (typed_entry f) if_allowed)
+abbrev pub validate_entry : EntryForm → Result NewOrder Refusal
+validate_entry f = blanks_first (wrong_blank f) (and_then (typed_entry f) if_allowed)

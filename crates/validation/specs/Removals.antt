@@ -12,16 +12,16 @@ use Rattle.forms.specs.Results.{and_then}
 use Rattle.validation.specs.Cells.{blanks_first, is_blank_cell, if_filled, firm_in, identifier_in, day_in, investor_in, tag_in, side_in}
 
 -- both cells are filled
-abbrev pub read_cancel : CancelForm → Result CancelRequest Refusal
-read_cancel f =
+abbrev pub validate_cancel : CancelForm → Result CancelRequest Refusal
+validate_cancel f =
     blanks_first (cond (is_blank_cell f.firm) (Some 1) (cond (is_blank_cell f.number) (Some 2) None))
     (and_then (firm_in 1 (unwrap_or f.firm 0)) (λ firm.
     and_then (identifier_in 2 (unwrap_or f.number 0)) (λ number.
     Ok (record { firm = firm; number = number }))))
 
 -- the firm is filled; a blank cell behind it means every one
-abbrev pub read_mass_cancel : MassCancelForm → Result CancelFilter Refusal
-read_mass_cancel f =
+abbrev pub validate_mass_cancel : MassCancelForm → Result CancelFilter Refusal
+validate_mass_cancel f =
     blanks_first (cond (is_blank_cell f.firm) (Some 1) None)
     (and_then (firm_in 1 (unwrap_or f.firm 0)) (λ firm.
     and_then (if_filled (side_in 2) f.side) (λ side.
@@ -34,5 +34,5 @@ opening_day None = Err (WrongBlank 1)
 opening_day (Some day) = day_in 1 day
 
 -- the day is filled
-abbrev pub read_opening : OpeningForm → Result ℕ Refusal
-read_opening f = opening_day f.day
+abbrev pub validate_opening : OpeningForm → Result ℕ Refusal
+validate_opening f = opening_day f.day

@@ -1,6 +1,6 @@
 // The form of a change.
 ghost use Rattle.std.specs.Prelude.{◌≡◌};
-ghost use Rattle.validation.specs.Changes.{read_change};
+ghost use Rattle.validation.specs.Changes.{validate_change};
 
 use crate::cells::{FIRMS, IDENTIFIERS, LOTS, LOTS_OR_NONE, filled, price_if_filled, validity_in};
 use forms::form::ChangeForm;
@@ -16,8 +16,8 @@ pub struct AmendRequest {
 }
 
 // What the form asks for, or why it is refused.
-pub fn read_change(form: ChangeForm) -> Result<AmendRequest, Refusal>
-    ensures { result ≡ read_change form }
+pub fn validate_change(form: ChangeForm) -> Result<AmendRequest, Refusal>
+    ensures { result ≡ validate_change form }
 {
     let firm = filled(1, form.firm)?;
     let client = filled(2, form.client)?;

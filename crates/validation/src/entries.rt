@@ -1,7 +1,7 @@
 // The form of an entry.
 ghost use Rattle.std.specs.Prelude.{◌≡◌, false, Some, Ok};
 ghost use Rattle.validation.specs.Cells.{blanks_first};
-ghost use Rattle.validation.specs.Entries.{price_wrong, trigger_wrong, type_in_cell, wrong_blank, order_type_of, typed_entry, read_entry};
+ghost use Rattle.validation.specs.Entries.{price_wrong, trigger_wrong, type_in_cell, wrong_blank, order_type_of, typed_entry, validate_entry};
 
 use crate::cells::{
     FIRMS, IDENTIFIERS, INVESTORS, LOTS, LOTS_OR_NONE, TAGS, TypeCode, filled, price_if_filled,
@@ -106,8 +106,8 @@ fn typed_entry(form: EntryForm) -> Result<NewOrder, Refusal>
 }
 
 // What the form asks for, or why it is refused: blanks, then ranges, then barred combinations.
-pub fn read_entry(form: EntryForm) -> Result<NewOrder, Refusal>
-    ensures { result ≡ read_entry form }
+pub fn validate_entry(form: EntryForm) -> Result<NewOrder, Refusal>
+    ensures { result ≡ validate_entry form }
 {
     check_blanks(form)?;
     let new_order = typed_entry(form)?;

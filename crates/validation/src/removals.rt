@@ -1,6 +1,6 @@
 // The forms of a cancel, a mass cancel and an opening.
 ghost use Rattle.std.specs.Prelude.{◌≡◌};
-ghost use Rattle.validation.specs.Removals.{read_cancel, read_mass_cancel, read_opening};
+ghost use Rattle.validation.specs.Removals.{validate_cancel, validate_mass_cancel, validate_opening};
 
 use crate::cells::{DAYS, FIRMS, IDENTIFIERS, INVESTORS, TAGS, filled, side_in};
 use forms::form::{CancelForm, MassCancelForm, OpeningForm};
@@ -14,8 +14,8 @@ pub struct CancelRequest {
     pub number: u32,
 }
 
-pub fn read_cancel(form: CancelForm) -> Result<CancelRequest, Refusal>
-    ensures { result ≡ read_cancel form }
+pub fn validate_cancel(form: CancelForm) -> Result<CancelRequest, Refusal>
+    ensures { result ≡ validate_cancel form }
 {
     let firm = filled(1, form.firm)?;
     let number = filled(2, form.number)?;
@@ -24,8 +24,8 @@ pub fn read_cancel(form: CancelForm) -> Result<CancelRequest, Refusal>
     Ok(CancelRequest { firm, number })
 }
 
-pub fn read_mass_cancel(form: MassCancelForm) -> Result<CancelFilter, Refusal>
-    ensures { result ≡ read_mass_cancel form }
+pub fn validate_mass_cancel(form: MassCancelForm) -> Result<CancelFilter, Refusal>
+    ensures { result ≡ validate_mass_cancel form }
 {
     let firm = FIRMS.read(1, filled(1, form.firm)?)?;
     let side = form.side.map(|n| side_in(2, n)).transpose()?;
@@ -40,8 +40,8 @@ pub fn read_mass_cancel(form: MassCancelForm) -> Result<CancelFilter, Refusal>
 }
 
 // The day that is to be opened.
-pub fn read_opening(form: OpeningForm) -> Result<u16, Refusal>
-    ensures { result ≡ read_opening form }
+pub fn validate_opening(form: OpeningForm) -> Result<u16, Refusal>
+    ensures { result ≡ validate_opening form }
 {
     DAYS.read(1, filled(1, form.day)?)
 }

@@ -12,9 +12,9 @@ use Rattle.matching.specs.declared.session.Session.{Session}
 use Rattle.matching.specs.Sessions.{session_from}
 use Rattle.matching.specs.Model.{MatchState}
 use Rattle.forms.specs.Results.{and_then}
-use Rattle.validation.specs.Entries.{read_entry}
-use Rattle.validation.specs.Changes.{read_change}
-use Rattle.validation.specs.Removals.{read_cancel, read_mass_cancel, read_opening}
+use Rattle.validation.specs.Entries.{validate_entry}
+use Rattle.validation.specs.Changes.{validate_change}
+use Rattle.validation.specs.Removals.{validate_cancel, validate_mass_cancel, validate_opening}
 use Rattle.venue.specs.declared.day.OpenDay.{OpenDay}
 use Rattle.venue.specs.declared.day.ClosedDay.{ClosedDay}
 use Rattle.venue.specs.declared.day.Day.{Day}
@@ -69,13 +69,13 @@ answer_open (Change form) f = answered (change_answer form f)
 answer_open (Cancel form) f = answered (cancel_answer form f.queues f.tape)
 answer_open (MassCancel form) f = answered (mass_cancel_answer form f.queues f.tape)
 answer_open Closing f = lines_free f.queues f.tape
-answer_open (Opening form) f = wrong_day (read_opening form)
+answer_open (Opening form) f = wrong_day (validate_opening form)
 
 abbrev pub closed_refusal : Form → Result (Unit {0}) Refusal
-closed_refusal (Entry form) = wrong_day (read_entry form)
-closed_refusal (Change form) = wrong_day (read_change form)
-closed_refusal (Cancel form) = wrong_day (read_cancel form)
-closed_refusal (MassCancel form) = wrong_day (read_mass_cancel form)
+closed_refusal (Entry form) = wrong_day (validate_entry form)
+closed_refusal (Change form) = wrong_day (validate_change form)
+closed_refusal (Cancel form) = wrong_day (validate_cancel form)
+closed_refusal (MassCancel form) = wrong_day (validate_mass_cancel form)
 closed_refusal Closing = Err WrongDay
 closed_refusal (Opening form) = Err WrongDay
 

@@ -22,9 +22,9 @@ use Rattle.matching.specs.Removing.{removals}
 use Rattle.validation.specs.declared.changes.AmendRequest.{AmendRequest}
 use Rattle.forms.specs.Results.{and_then}
 use Rattle.validation.specs.Combinations.{disclosed_barred}
-use Rattle.validation.specs.Entries.{read_entry}
-use Rattle.validation.specs.Changes.{read_change}
-use Rattle.validation.specs.Removals.{read_cancel, read_mass_cancel, read_opening}
+use Rattle.validation.specs.Entries.{validate_entry}
+use Rattle.validation.specs.Changes.{validate_change}
+use Rattle.validation.specs.Removals.{validate_cancel, validate_mass_cancel, validate_opening}
 use Rattle.venue.specs.declared.lookup.Found.{Found}
 use Rattle.venue.specs.declared.plan.AmendPlan.{AmendPlan}
 use Rattle.venue.specs.Rooms.{lines_free, stamps_free}
@@ -44,7 +44,7 @@ after_answer act (Err e) f = f
 
 abbrev pub entry_answer : EntryForm → MatchState → Result Entry Refusal
 entry_answer form f =
-    and_then (read_entry form) (λ a.
+    and_then (validate_entry form) (λ a.
     and_then (lines_free f.queues f.tape) (λ _.
     and_then (stamps_free f.queues f.session) (λ _.
     and_then (client_free a.firm a.client None f.queues) (λ _.
@@ -71,7 +71,7 @@ plan_for a x =
 
 abbrev pub change_answer : ChangeForm → MatchState → Result AmendPlan Refusal
 change_answer form f =
-    and_then (read_change form) (λ a.
+    and_then (validate_change form) (λ a.
     and_then (lines_free f.queues f.tape) (λ _.
     and_then (stamps_free f.queues f.session) (λ _.
     and_then (firms_record a.firm a.number f.queues) (λ x.
@@ -88,7 +88,7 @@ after_change_step form f = after_answer carry_out_plan (change_answer form f) f
 
 abbrev pub cancel_answer : CancelForm → Queues → Log → Result Found Refusal
 cancel_answer form q r =
-    and_then (read_cancel form) (λ a.
+    and_then (validate_cancel form) (λ a.
     and_then (lines_free q r) (λ _.
     firms_record a.firm a.number q))
 
@@ -100,7 +100,7 @@ after_cancel form f = after_answer cancel_found (cancel_answer form f.queues f.t
 
 abbrev pub mass_cancel_answer : MassCancelForm → Queues → Log → Result CancelFilter Refusal
 mass_cancel_answer form q r =
-    and_then (read_mass_cancel form) (λ w.
+    and_then (validate_mass_cancel form) (λ w.
     and_then (lines_free q r) (λ _.
     Ok w))
 
@@ -117,6 +117,6 @@ cancel_day_orders f = removals DayOrders DayClosed f
 
 abbrev pub opening_result : OpeningForm → ℕ → Queues → Log → Result ℕ Refusal
 opening_result form day q r =
-    and_then (read_opening form) (λ d.
+    and_then (validate_opening form) (λ d.
     and_then (lines_free q r) (λ _.
     cond (nat_lt day d) (Ok d) (Err DayNotLater)))

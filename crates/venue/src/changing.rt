@@ -18,7 +18,7 @@ use matching::changing::change;
 use matching::session::Session;
 use orders::order::Order;
 use tapes::tape::Tape;
-use validation::changes::{AmendRequest, read_change};
+use validation::changes::{AmendRequest, validate_change};
 use validation::combinations::is_disclosed_barred;
 
 // The new quantity is above the lots traded.
@@ -64,7 +64,7 @@ fn change_answer<B: Book>(
 ) -> Result<AmendPlan, Refusal>
     ensures { result ≡ change_answer form (match_state (B.queues book.now) tape.now session None) }
 {
-    let request = read_change(form)?;
+    let request = validate_change(form)?;
     lines_free(book, tape)?;
     stamps_free(book, session)?;
     let found = firms_record(book, request.firm, request.number)?;

@@ -13,7 +13,7 @@ use matching::removal::Removal;
 use matching::removing::remove;
 use tapes::cause::Cause;
 use tapes::tape::Tape;
-use validation::removals::read_opening;
+use validation::removals::validate_opening;
 
 impl OpenDay {
     // The Day orders and stops are removed and the day is closed, or it is handed back.
@@ -42,7 +42,7 @@ fn opening_result<B: Book>(
 ) -> Result<u16, Refusal>
     ensures { result ≡ opening_result form day (B.queues book.now) tape.now }
 {
-    let next = read_opening(form)?;
+    let next = validate_opening(form)?;
     lines_free(book, tape)?;
     if day < next {
         Ok(next)

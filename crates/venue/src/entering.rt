@@ -16,7 +16,7 @@ use matching::entering::enter;
 use matching::new_order::NewOrder;
 use matching::session::Session;
 use tapes::tape::Tape;
-use validation::entries::read_entry;
+use validation::entries::validate_entry;
 
 // What the form asks for, or why it is refused, by rising number.
 fn entry_answer<B: Book>(
@@ -27,7 +27,7 @@ fn entry_answer<B: Book>(
 ) -> Result<NewOrder, Refusal>
     ensures { result ≡ entry_answer form (match_state (B.queues book.now) tape.now session None) }
 {
-    let new_order = read_entry(form)?;
+    let new_order = validate_entry(form)?;
     lines_free(book, tape)?;
     stamps_free(book, session)?;
     let claim = ClientNumberClaim {

@@ -15,12 +15,12 @@ use matching::removal::{CancelFilter, Removal};
 use matching::removing::{cancel_resting, remove};
 use tapes::cause::Cause;
 use tapes::tape::Tape;
-use validation::removals::{read_cancel, read_mass_cancel};
+use validation::removals::{validate_cancel, validate_mass_cancel};
 
 fn cancel_answer<B: Book>(book: &B, tape: &Tape, form: CancelForm) -> Result<Found, Refusal>
     ensures { result ≡ cancel_answer form (B.queues book.now) tape.now }
 {
-    let request = read_cancel(form)?;
+    let request = validate_cancel(form)?;
     lines_free(book, tape)?;
     firms_record(book, request.firm, request.number)
 }
@@ -32,7 +32,7 @@ fn mass_cancel_answer<B: Book>(
 ) -> Result<CancelFilter, Refusal>
     ensures { result ≡ mass_cancel_answer form (B.queues book.now) tape.now }
 {
-    let filter = read_mass_cancel(form)?;
+    let filter = validate_mass_cancel(form)?;
     lines_free(book, tape)?;
     Ok(filter)
 }

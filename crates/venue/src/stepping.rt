@@ -1,7 +1,7 @@
 // One step of a day of which only the run knows whether it is open.
 // By a match on the form, not by closures: a form is data that a member sends.
 ghost use Rattle.std.specs.Prelude.{◌≡◌};
-ghost use Rattle.validation.specs.Removals.{read_opening};
+ghost use Rattle.validation.specs.Removals.{validate_opening};
 ghost use Rattle.venue.specs.Days.{state, wrong_day, closed_refusal, answer, step};
 ghost use Rattle.venue.specs.declared.day.Day.TheVariants.{Open, Closed};
 
@@ -10,9 +10,9 @@ use books::book::Book;
 use forms::form::{Form, OpeningForm};
 use forms::refusal::Refusal;
 use tapes::tape::Tape;
-use validation::changes::read_change;
-use validation::entries::read_entry;
-use validation::removals::{read_cancel, read_mass_cancel, read_opening};
+use validation::changes::validate_change;
+use validation::entries::validate_entry;
+use validation::removals::{validate_cancel, validate_mass_cancel, validate_opening};
 
 fn step_open<B: Book>(
     open: OpenDay,
@@ -50,9 +50,9 @@ fn step_open<B: Book>(
 
 // Cells are looked at before the day.
 fn opening_on_open(form: OpeningForm) -> Result<(), Refusal>
-    ensures { result ≡ wrong_day (read_opening form) }
+    ensures { result ≡ wrong_day (validate_opening form) }
 {
-    read_opening(form)?;
+    validate_opening(form)?;
     Err(Refusal::WrongDay)
 }
 
@@ -61,16 +61,16 @@ fn refused_closed(form: Form) -> Result<(), Refusal>
 {
     match form {
         Form::Entry(form) => {
-            read_entry(form)?;
+            validate_entry(form)?;
         }
         Form::Change(form) => {
-            read_change(form)?;
+            validate_change(form)?;
         }
         Form::Cancel(form) => {
-            read_cancel(form)?;
+            validate_cancel(form)?;
         }
         Form::MassCancel(form) => {
-            read_mass_cancel(form)?;
+            validate_mass_cancel(form)?;
         }
         Form::Closing | Form::Opening(_) => {}
     }
