@@ -1,67 +1,80 @@
--- How an order is changed.
-use Rattle.std.specs.Prelude.{ℕ, ◌-◌, min, Bool, cond, not, ◌||◌, ◌==◌, nat_lt}
+-- How an order is changed (rules 13).
+use Rattle.std.specs.Prelude.{ℕ, ◌-◌, min, Bool, not, ◌||◌, ◌==◌, nat_lt, if◌then◌else◌}
 use Rattle.std.specs.Option.{unwrap_or}
 use Rattle.orders.specs.declared.side.Side.{Side}
 use Rattle.orders.specs.declared.side.Validity.{Validity}
 use Rattle.orders.specs.declared.price.Price.{Price}
 use Rattle.orders.specs.declared.order.Order.{Order}
 use Rattle.orders.specs.Prices.{same_price}
-use Rattle.orders.specs.Rows.{order_of}
+use Rattle.orders.specs.Rows.{row_of, order_of}
 use Rattle.orders.specs.Lots.{showing}
 use Rattle.matching.specs.declared.amendment.Amendment.{Amendment}
 use Rattle.matching.specs.Model.{MatchState, amends, requeues, apply}
 use Rattle.matching.specs.Running.{run_to_rest}
 
--- a blank cell leaves the order's own value
+-- a blank cell leaves the order's own value (rules 13)
+
 abbrev pub new_price : Amendment → Order → Price
-new_price c o = unwrap_or c.price o.price
+new_price amendment order = unwrap_or amendment.price order.price
 
 abbrev pub new_quantity : Amendment → Order → ℕ
-new_quantity c o = unwrap_or c.quantity o.quantity
+new_quantity amendment order = unwrap_or amendment.quantity order.quantity
 
 abbrev pub new_disclosed : Amendment → Order → ℕ
-new_disclosed c o = unwrap_or c.disclosed o.disclosed
+new_disclosed amendment order = unwrap_or amendment.disclosed order.disclosed
 
 abbrev pub new_validity : Amendment → Order → Validity
-new_validity c o = unwrap_or c.validity o.validity
+new_validity amendment order = unwrap_or amendment.validity order.validity
 
 -- the lots that an order has traded
 abbrev pub lots_traded : Order → ℕ
-lots_traded o = o.quantity - o.open_lots
+lots_traded order = order.quantity - order.open_lots
 
--- the new quantity counts the lots already traded
+-- the new quantity counts the lots already traded (rules 13)
 abbrev pub new_open_lots : Amendment → Order → ℕ
-new_open_lots c o = new_quantity c o - lots_traded o
+new_open_lots amendment order = new_quantity amendment order - lots_traded order
 
--- a different price, a larger quantity or a different disclosed costs the turn
+-- another price, a larger quantity or another disclosed costs the turn (rules 13)
 abbrev pub loses_turn : Amendment → Order → Bool
-loses_turn c o = not (same_price (new_price c o) o.price) || (nat_lt o.quantity (new_quantity c o) || not (new_disclosed c o == o.disclosed))
+loses_turn amendment order =
+    not (same_price (new_price amendment order) order.price)
+    || (nat_lt order.quantity (new_quantity amendment order)
+    || not (new_disclosed amendment order == order.disclosed))
 
+-- number, firm, side, investor and tag stay (rules 13)
 abbrev pub changed_order : (turn shown : ℕ) → Amendment → Order → Order
-changed_order turn shown c o = order_of (record {
-  number = o.number;
+changed_order turn shown amendment order = order_of (record (row_of order) {
   turn = turn;
-  firm = o.firm;
-  client = c.client;
-  side = o.side;
-  price = new_price c o;
-  quantity = new_quantity c o;
-  open_lots = new_open_lots c o;
+  client = amendment.client;
+  price = new_price amendment order;
+  quantity = new_quantity amendment order;
+  open_lots = new_open_lots amendment order;
   shown = shown;
-  disclosed = new_disclosed c o;
-  validity = new_validity c o;
-  investor = o.investor;
-  tag = o.tag;
+  disclosed = new_disclosed amendment order;
+  validity = new_validity amendment order;
 })
 
--- in its place, an order shows the smaller of shown and open
+-- an order that keeps its place shows the smaller of its shown and its new open lots (rules 13)
 abbrev pub amended_order : Amendment → Order → Order
-amended_order c o = changed_order o.turn (min o.shown (new_open_lots c o)) c o
+amended_order amendment order =
+    changed_order order.turn (min order.shown (new_open_lots amendment order)) amendment order
 
--- under a new turn, it shows anew
+-- the lots that it shows where it joins a queue again (rules 3)
+abbrev pub shown_anew : Amendment → Order → ℕ
+shown_anew amendment order = showing (new_disclosed amendment order) (new_open_lots amendment order)
+
+-- an order that loses its turn draws a new one (rules 13)
 abbrev pub requeued_order : ℕ → Amendment → Order → Order
-requeued_order stamp c o = changed_order stamp (showing (new_disclosed c o) (new_open_lots c o)) c o
+requeued_order stamp amendment order =
+    changed_order stamp (shown_anew amendment order) amendment order
 
--- an order that loses its turn leaves its queue and trades as incoming; any other keeps its place
+-- it leaves its queue and trades as incoming, as an entry does (rules 13)
+abbrev pub requeue_and_run : Side → ℕ → Order → MatchState → MatchState
+requeue_and_run side at order state = run_to_rest (apply (requeues side at order) state)
+
+-- the order at a place loses its turn, or keeps its place (rules 13)
 abbrev pub change_at : Amendment → Side → ℕ → Order → MatchState → MatchState
-change_at c s i o f = cond (loses_turn c o) (run_to_rest (apply (requeues s i (requeued_order f.session.next_stamp c o)) f)) (apply (amends i (amended_order c o)) f)
+change_at amendment side at order state =
+    if loses_turn amendment order
+    then requeue_and_run side at (requeued_order state.session.next_stamp amendment order) state
+    else apply (amends at (amended_order amendment order)) state

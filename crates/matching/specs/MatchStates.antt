@@ -1,4 +1,4 @@
--- The match state that a book, a tape and a session make, with the incoming order.
+-- The match state of a book, a tape and a session, with the incoming order.
 use Rattle.std.specs.Prelude.{Option}
 use Rattle.orders.specs.declared.order.Order.{Order}
 use Rattle.books.specs.Model.{Queues}
@@ -7,4 +7,9 @@ use Rattle.matching.specs.declared.session.Session.{Session}
 use Rattle.matching.specs.Model.{MatchState}
 
 abbrev pub match_state : Queues → Log → Session → Option Order → MatchState
-match_state queues tape session incoming = record { queues = queues; incoming = incoming; tape = tape; session = session }
+match_state queues tape session incoming = record {
+  queues = queues;
+  incoming = incoming;
+  tape = tape;
+  session = session;
+}

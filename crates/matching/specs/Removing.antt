@@ -1,5 +1,5 @@
--- Removals: one record, or all that a pick names, in the order of the four queues.
-use Rattle.std.specs.Prelude.{ℕ, zero, suc, ◌+◌, Bool, true, cond, ◌&&◌, Some, None, Option, ◌==◌}
+-- Removals: one record, or all that a removal names, in the order of the four queues.
+use Rattle.std.specs.Prelude.{ℕ, zero, suc, ◌+◌, Bool, true, ◌&&◌, Some, None, Option, ◌==◌, if◌then◌else◌}
 use Rattle.orders.specs.declared.side.Side.{Side}
 use Rattle.orders.specs.declared.side.Side.TheVariants.{Buy, Sell}
 use Rattle.orders.specs.declared.order.Order.{Order}
@@ -14,37 +14,52 @@ use Rattle.matching.specs.declared.removal.Removal.{Removal}
 use Rattle.matching.specs.declared.removal.Removal.TheVariants.{Matching, DayOrders}
 use Rattle.matching.specs.Model.{MatchState, cancels_resting, apply}
 
--- a blank cell fits every value, by how values are told apart
+-- a blank cell matches every value, a filled one its own (rules 14)
 abbrev pub matches_cell : {X : Type 0} → (X → X → Bool) → Option X → X → Bool
 matches_cell same None x = true
-matches_cell same (Some w) x = same w x
+matches_cell same (Some wanted) x = same wanted x
 
 abbrev pub matches_side : Option Side → Side → Bool
-matches_side w s = matches_cell same_side w s
+matches_side cell side = matches_cell same_side cell side
 
 abbrev pub matches_number : Option ℕ → ℕ → Bool
-matches_number w n = matches_cell (λ m k. m == k) w n
+matches_number cell number = matches_cell (λ m k. m == k) cell number
 
--- all of a firm's that match every filled cell
+-- an order of the firm that matches every filled cell (rules 14)
 abbrev pub matches_filter : CancelFilter → Order → Bool
-matches_filter w o = w.firm == o.firm && (matches_side w.side o.side && (matches_number w.tag o.tag && matches_number w.investor o.investor))
+matches_filter filter order =
+    filter.firm == order.firm
+    && (matches_side filter.side order.side
+    && (matches_number filter.tag order.tag && matches_number filter.investor order.investor))
 
+-- what a mass cancel removes, and what a closing does (rules 14, 15)
 abbrev pub removes : Removal → Order → Bool
-removes (Matching w) o = matches_filter w o
-removes DayOrders o = is_day o.validity
+removes (Matching filter) order = matches_filter filter order
+removes DayOrders order = is_day order.validity
 
--- along a queue, what is picked is pulled and what is not is passed
+-- a record that the removal names is cancelled, any other is passed; behind the last the sweep ends
 abbrev pub sweep_at : Option Record → Removal → (Record → MatchState) → MatchState → MatchState → MatchState
-sweep_at None p cancel_resting pass f = f
-sweep_at (Some r) p cancel_resting pass f = cond (removes p (order_of_record r)) (cancel_resting r) pass
+sweep_at None removal cancel pass end = end
+sweep_at (Some found) removal cancel pass end =
+    if removes removal (order_of_record found) then cancel found else pass
 
+-- at most so many records of a queue, from a place on
 unfoldable pub sweep : ℕ → Removal → Cause → Queue → ℕ → MatchState → MatchState
-sweep zero p c n i f = f
-sweep (suc k) p c n i f = sweep_at (look_at n i f.queues) p (λ r. sweep k p c n i (apply (cancels_resting c n i r) f)) (sweep k p c n (i + 1) f) f
+sweep zero removal cause queue i state = state
+sweep (suc most) removal cause queue i state =
+    sweep_at (look_at queue i state.queues) removal
+    (λ found. sweep most removal cause queue i (apply (cancels_resting cause queue i found) state))
+    (sweep most removal cause queue (i + 1) state)
+    state
 
+-- a whole queue, by rank (rules 14)
 abbrev pub swept : Removal → Cause → Queue → MatchState → MatchState
-swept p c n f = sweep (count n f.queues) p c n 0 f
+swept removal cause queue state = sweep (count queue state.queues) removal cause queue 0 state
 
--- in the order of the four queues
+-- bids, offers, buy stops, sell stops (rules 14)
 abbrev pub removals : Removal → Cause → MatchState → MatchState
-removals p c f = swept p c (Stops Sell) (swept p c (Stops Buy) (swept p c (Orders Sell) (swept p c (Orders Buy) f)))
+removals removal cause state =
+    swept removal cause (Stops Sell)
+    (swept removal cause (Stops Buy)
+    (swept removal cause (Orders Sell)
+    (swept removal cause (Orders Buy) state)))

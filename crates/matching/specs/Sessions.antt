@@ -1,10 +1,11 @@
--- The session of a venue: the next stamp, and the price of the latest trade (rules 2, 10).
+-- The session of a venue: the next stamp, and the last price (rules 2, 10).
+--   stamp  the next value of one rising count; numbers and turns are stamps (rules 1)
 use Rattle.std.specs.Prelude.{ℕ, ◌+◌, ◌-◌, max, Some, None, nat_lt, if◌then◌else◌}
 use Rattle.orders.specs.declared.price.Price.{Price}
 use Rattle.matching.specs.declared.session.Session.{Session}
 use Rattle.matching.specs.declared.session.TheConstants.{STAMPS_END}
 
--- the stamp behind a stamp; at the end of the stamps none is undrawn, and the count stands still (rules 2)
+-- the stamp that follows a stamp; at the end of the stamps none is left to draw (rules 2)
 abbrev pub stamp_after : ℕ → ℕ
 stamp_after stamp = if nat_lt stamp STAMPS_END then stamp + 1 else stamp
 
