@@ -1,4 +1,4 @@
-// What a change asks for, after its checks: a blank cell leaves the order's own value.
+// What a change asks for, after its validation.
 ghost use Rattle.std.specs.Prelude.{◌≡◌};
 ghost use Rattle.matching.specs.Changing.{new_price, new_quantity, new_disclosed, new_open_lots, loses_turn, changed_order, amended_order, requeued_order};
 
@@ -8,6 +8,8 @@ use orders::price::Price;
 use orders::row::OrderRow;
 use orders::side::Validity;
 
+/// The new client number and the cells that may be blank: a blank one leaves the order's own value
+/// (rules 13).
 #[derive(Clone, Copy)]
 pub struct Amendment {
     pub client: u32,
@@ -18,25 +20,28 @@ pub struct Amendment {
 }
 
 impl Amendment {
+    /// The price after the change.
     pub fn new_price(self, order: Order) -> Price
         ensures { result ≡ new_price self order }
     {
         self.price.unwrap_or(order.price)
     }
 
+    /// The quantity after the change, in lots; it counts those already traded.
     pub fn new_quantity(self, order: Order) -> u32
         ensures { result ≡ new_quantity self order }
     {
         self.quantity.unwrap_or(order.quantity)
     }
 
+    /// The disclosed lots after the change.
     pub fn new_disclosed(self, order: Order) -> u32
         ensures { result ≡ new_disclosed self order }
     {
         self.disclosed.unwrap_or(order.disclosed)
     }
 
-    // The open lots after the change: the new quantity counts the lots already traded.
+    // The new quantity counts the lots already traded.
     fn new_open_lots(self, order: Order) -> u32
         ensures { result ≡ new_open_lots self order }
     {
@@ -44,7 +49,7 @@ impl Amendment {
         self.new_quantity(order).saturating_sub(traded)
     }
 
-    // Whether the change costs the order its turn.
+    /// Whether the order loses its turn: another price, a larger quantity or another disclosed (rules 13).
     pub fn loses_turn(self, order: Order) -> bool
         ensures { result ≡ loses_turn self order }
     {
@@ -69,7 +74,7 @@ impl Amendment {
         })
     }
 
-    // The order in its place.
+    /// The order that keeps its place and turn (rules 13).
     pub fn amended_order(self, order: Order) -> Order
         ensures { result ≡ amended_order self order }
     {
@@ -77,7 +82,7 @@ impl Amendment {
         self.changed_order(order.turn, shown, order)
     }
 
-    // The order under a new turn.
+    /// The order that loses its turn, under a new one (rules 13).
     pub fn requeued_order(self, stamp: u32, order: Order) -> Order
         ensures { result ≡ requeued_order stamp self order }
     {

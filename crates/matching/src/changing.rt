@@ -25,15 +25,16 @@ fn replaced(order: Order) -> Line
     }
 }
 
-// The order at a place keeps it.
+// The order is changed and keeps its place.
 fn amend<B: Book>(book: &mut B, tape: &mut Tape, at: usize, order: Order)
-    ensures { (c : SessionValue) → match_state (B.queues book.new) tape.new c None ≡ apply (amends at order) (match_state (B.queues book.old) tape.old c None) }
+    ensures { (session : SessionValue) → match_state (B.queues book.new) tape.new session None
+        ≡ apply (amends at order) (match_state (B.queues book.old) tape.old session None) }
 {
     let _ = book.rewrite(at, Record::Standing(order));
     tape.write(replaced(order));
 }
 
-// The order at a place leaves its queue and comes in under a new turn.
+// The order is changed, loses its turn and leaves its queue. It is the incoming order from then on.
 fn requeue<B: Book>(
     book: &mut B,
     tape: &mut Tape,
@@ -42,14 +43,17 @@ fn requeue<B: Book>(
     at: usize,
     order: Order,
 )
-    ensures { match_state (B.queues book.new) tape.new session.new (Some order) ≡ apply (requeues side at order) (match_state (B.queues book.old) tape.old session.old None) }
+    ensures { match_state (B.queues book.new) tape.new session.new (Some order)
+        ≡ apply (requeues side at order)
+        (match_state (B.queues book.old) tape.old session.old None) }
 {
     let _ = book.take(Queue::Orders(side), at);
     tape.write(replaced(order));
     let _ = session.draw();
 }
 
-// The order that stands at a place of a side is changed. Its place and itself are given side by side, as a look has told them.
+/// Changes a standing order: `order`, which is at place `at` on `side`. It keeps its place, or it
+/// loses its turn and trades as incoming, and then each ripe stop does (rules 13).
 pub fn change<B: Book>(
     book: &mut B,
     tape: &mut Tape,
@@ -59,7 +63,9 @@ pub fn change<B: Book>(
     at: usize,
     order: Order,
 )
-    ensures { match_state (B.queues book.new) tape.new session.new None ≡ change_at amendment side at order (match_state (B.queues book.old) tape.old session.old None) }
+    ensures { match_state (B.queues book.new) tape.new session.new None
+        ≡ change_at amendment side at order
+        (match_state (B.queues book.old) tape.old session.old None) }
 {
     if amendment.loses_turn(order) {
         let incoming = amendment.requeued_order(session.next_stamp, order);

@@ -1,9 +1,8 @@
-// How an entry comes in.
+// How an entry is accepted.
 ghost use Rattle.std.specs.Prelude.{◌≡◌, Some, None};
 ghost use Rattle.matching.specs.Model.{line_A, accepts_unmatched, apply};
-ghost use Rattle.matching.specs.Running.{next_event};
 ghost use Rattle.matching.specs.MatchStates.{match_state};
-ghost use Rattle.matching.specs.Entering.{entered_order, falls_short, accepts_or_cancels, arrival_as, arrival, enter};
+ghost use Rattle.matching.specs.Entering.{falls_short, arrival_at, arrival_as, arrival, enter};
 ghost use Rattle.books.specs.Model.{Queues as QueuesValue};
 ghost use Rattle.matching.specs.declared.new_order.OrderType.TheVariants.{StopLimit};
 
@@ -31,7 +30,7 @@ fn entered(order: Order) -> Line
     }
 }
 
-// Whether reach falls short of what the entry wants at once.
+// Whether the reach is below the minimum, or that of a FOK below its quantity.
 fn falls_short<B: Book>(book: &B, new_order: NewOrder, order: Order) -> bool
     ensures { result ≡ falls_short new_order order (B.queues book.now) }
 {
@@ -43,7 +42,7 @@ fn falls_short<B: Book>(book: &B, new_order: NewOrder, order: Order) -> bool
     lots < u64::from(new_order.minimum) || (all && lots < u64::from(new_order.quantity))
 }
 
-// An order that is no stop is written, and becomes the incoming one or is cancelled whole.
+// An order that is no stop is accepted: it becomes the incoming one, or is cancelled whole.
 fn accept<B: Book>(
     book: &B,
     tape: &mut Tape,
@@ -51,7 +50,9 @@ fn accept<B: Book>(
     new_order: NewOrder,
     price: Price,
 ) -> Option<Order>
-    ensures { match_state (B.queues book.now) tape.new session.new result ≡ apply (accepts_or_cancels new_order (entered_order new_order price session.old.next_stamp) (B.queues book.now)) (match_state (B.queues book.now) tape.old session.old None) }
+    ensures { match_state (B.queues book.now) tape.new session.new result
+        ≡ apply (arrival_at price new_order session.old.next_stamp (B.queues book.now))
+        (match_state (B.queues book.now) tape.old session.old None) }
 {
     let order = new_order.order(price, session.draw());
     tape.write(entered(order));
@@ -62,9 +63,11 @@ fn accept<B: Book>(
     Some(order)
 }
 
-// A market order finds no opposite.
+// A market order without an opposite one is accepted and cancelled.
 fn accept_unmatched(tape: &mut Tape, session: &mut Session, quantity: u32)
-    ensures { (q : QueuesValue) → match_state q tape.new session.new None ≡ apply (accepts_unmatched session.old.next_stamp quantity) (match_state q tape.old session.old None) }
+    ensures { (queues : QueuesValue) → match_state queues tape.new session.new None
+        ≡ apply (accepts_unmatched session.old.next_stamp quantity)
+        (match_state queues tape.old session.old None) }
 {
     let number = session.draw();
     tape.write(Line::Accepted {
@@ -80,7 +83,7 @@ fn accept_unmatched(tape: &mut Tape, session: &mut Session, quantity: u32)
     });
 }
 
-// A stop is written, and joins its queue or is cancelled.
+// A stop is accepted: it joins its queue, or is cancelled where put refuses it.
 fn accept_stop<B: Book>(
     book: &mut B,
     tape: &mut Tape,
@@ -89,7 +92,10 @@ fn accept_stop<B: Book>(
     limit: Price,
     trigger: Price,
 )
-    ensures { match_state (B.queues book.new) tape.new session.new None ≡ apply (arrival_as (StopLimit limit trigger) new_order session.old.next_stamp (B.queues book.old)) (match_state (B.queues book.old) tape.old session.old None) }
+    ensures { match_state (B.queues book.new) tape.new session.new None
+        ≡ apply
+        (arrival_as (StopLimit limit trigger) new_order session.old.next_stamp (B.queues book.old))
+        (match_state (B.queues book.old) tape.old session.old None) }
 {
     let order = new_order.order(limit, session.draw());
     tape.write(entered(order));
@@ -98,14 +104,16 @@ fn accept_stop<B: Book>(
     }
 }
 
-// The entry is written, and waits, is turned away or becomes the incoming one.
+// The entry is accepted, by its type. Answers the incoming order, if there is one.
 fn arrive<B: Book>(
     book: &mut B,
     tape: &mut Tape,
     session: &mut Session,
     new_order: NewOrder,
 ) -> Option<Order>
-    ensures { match_state (B.queues book.new) tape.new session.new result ≡ apply (arrival new_order session.old.next_stamp (B.queues book.old)) (match_state (B.queues book.old) tape.old session.old None) }
+    ensures { match_state (B.queues book.new) tape.new session.new result
+        ≡ apply (arrival new_order session.old.next_stamp (B.queues book.old))
+        (match_state (B.queues book.old) tape.old session.old None) }
 {
     match new_order.order_type {
         OrderType::Limit(price) => accept(book, tape, session, new_order, price),
@@ -123,9 +131,10 @@ fn arrive<B: Book>(
     }
 }
 
-// An entry: it comes in, trades, and the stops that it makes ripe do too.
+/// An entry is accepted and trades, and then each ripe stop does (rules 8, 12).
 pub fn enter<B: Book>(book: &mut B, tape: &mut Tape, session: &mut Session, new_order: NewOrder)
-    ensures { match_state (B.queues book.new) tape.new session.new None ≡ enter new_order (match_state (B.queues book.old) tape.old session.old None) }
+    ensures { match_state (B.queues book.new) tape.new session.new None
+        ≡ enter new_order (match_state (B.queues book.old) tape.old session.old None) }
 {
     let incoming = arrive(book, tape, session, new_order);
     run_to_rest(book, tape, session, incoming);

@@ -1,5 +1,6 @@
-// How orders trade: the incoming order, the stops that it sets off, changes and removals, above any book.
-// Book, tape and session are lent side by side: a struct of the three would have to say in each clause that they are still the same loans.
+// The matching engine: how orders are entered, trade, are changed and are removed, on any book.
+// Book, tape and session are arguments of their own: a struct of three `&mut` fields would have to
+// say in each clause that they still refer to the same book, tape and session.
 #![tactic(auto)]
 
 pub mod amendment;

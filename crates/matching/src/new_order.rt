@@ -1,4 +1,4 @@
-// What an entry asks for, after its checks.
+// What an entry asks for, after its validation.
 ghost use Rattle.std.specs.Prelude.{◌≡◌};
 ghost use Rattle.matching.specs.Entering.{entered_order};
 
@@ -8,7 +8,8 @@ use orders::price::Price;
 use orders::row::OrderRow;
 use orders::side::{Side, Validity};
 
-// A limit order, a market order whose leftover is a limit order, or a stop limit order.
+/// A limit order (2), a market order whose leftover is a limit order (K), or a stop limit order (4)
+/// (rules 1).
 #[derive(Clone, Copy, Debug, PartialEq, Eq)]
 pub enum OrderType {
     Limit(Price),
@@ -16,7 +17,8 @@ pub enum OrderType {
     StopLimit { limit: Price, trigger: Price },
 }
 
-// Disclosed, minimum and investor are 0 for none, as in the published cells.
+/// An entry: quantity, disclosed and minimum in lots; disclosed, minimum and investor are 0 for none
+/// (rules 1).
 #[derive(Clone, Copy)]
 pub struct NewOrder {
     pub firm: u16,
@@ -32,7 +34,7 @@ pub struct NewOrder {
 }
 
 impl NewOrder {
-    // The order that is entered, wholly open, under a stamp.
+    /// The order that is entered, wholly open; the stamp is its number and its first turn (rules 8).
     pub fn order(self, price: Price, stamp: u32) -> Order
         ensures { result ≡ entered_order self price stamp }
     {

@@ -1,10 +1,8 @@
-// Reach: the lots that an incoming order could trade at once.
-ghost use Rattle.std.specs.Prelude.{◌≡◌, ◌*◌, ◌≤◌, length, if◌then◌else◌};
+// Reach: how many lots an incoming order could trade at once.
+ghost use Rattle.std.specs.Prelude.{◌≡◌, ◌≤◌, length, if◌then◌else◌};
 ghost use Rattle.orders.specs.Prices.{same_price};
-ghost use Rattle.orders.specs.Sides.{opposite};
-ghost use Rattle.books.specs.Model.{at};
 ghost use Rattle.books.specs.OrdersLeft.{orders_left};
-ghost use Rattle.matching.specs.Reach.{better, own, own_price, counts, counted_open_lots, shown_ahead, reach};
+ghost use Rattle.matching.specs.Reach.{better, own, own_price, counts, counted_open_lots, shown_ahead, opposite_orders, most_open_lots, reach};
 
 use books::book::Book;
 use books::orders_of::{OrdersOf, orders_in};
@@ -53,37 +51,38 @@ fn shown_at(r: Order, price: Price) -> u32
     if r.price == price { r.shown } else { 0 }
 }
 
-// The orders that stand opposite.
+// The orders that stand opposite, in rank order.
 fn opposite_orders<B: Book>(book: &B, order: Order) -> OrdersOf<'_, B>
-    ensures answer { orders_left B.queues result ≡ at (opposite order.side) (B.queues book.now).stands }
-    ensures few { length (at (opposite order.side) (B.queues book.now).stands) ≤ 1000000 }
+    ensures answer { orders_left B.queues result ≡ opposite_orders order (B.queues book.now) }
+    ensures few { length (opposite_orders order (B.queues book.now)) ≤ 1000000 }
 {
     orders_in(book, Queue::Orders(order.side.opposite()))
 }
 
-// The price of the first opposite order within the limit that has the incoming investor.
+// The price of the first opposite order within the limit and of the same investor.
 fn own_price<B: Book>(book: &B, order: Order) -> Option<Price>
-    ensures { result ≡ own_price order (at (opposite order.side) (B.queues book.now).stands) }
+    ensures { result ≡ own_price order (opposite_orders order (B.queues book.now)) }
 {
     opposite_orders(book, order)
         .find(|r| is_own(order, *r))
         .map(|r| r.price)
 }
 
-// The open lots that count.
+// The open lots that count: all within the limit, or those at better prices than the own one.
 fn counted_open_lots<B: Book>(book: &B, order: Order, price: Option<Price>) -> u64
-    ensures small { result ≤ 1000000 * 1000000 }
-    ensures answer { result ≡ counted_open_lots order price (at (opposite order.side) (B.queues book.now).stands) }
+    ensures small { result ≤ most_open_lots }
+    ensures answer { result
+        ≡ counted_open_lots order price (opposite_orders order (B.queues book.now)) }
 {
     opposite_orders(book, order)
         .map(|r| u64::from(counted(order, price, r)))
         .sum()
 }
 
-// The shown lots at a price ahead of the first opposite order that has the incoming investor.
+// The shown lots at a price ahead of the first opposite order of the same investor.
 fn shown_ahead<B: Book>(book: &B, order: Order, price: Price) -> u64
-    ensures small { result ≤ 1000000 * 1000000 }
-    ensures answer { result ≡ shown_ahead order price (at (opposite order.side) (B.queues book.now).stands) }
+    ensures small { result ≤ most_open_lots }
+    ensures answer { result ≡ shown_ahead order price (opposite_orders order (B.queues book.now)) }
 {
     opposite_orders(book, order)
         .take_while(|r| !is_own(order, *r))
@@ -91,8 +90,9 @@ fn shown_ahead<B: Book>(book: &B, order: Order, price: Price) -> u64
         .sum()
 }
 
+/// The reach of an incoming order, in lots (rules 9).
 pub fn reach<B: Book>(book: &B, order: Order) -> u64
-    ensures { result ≡ reach order (at (opposite order.side) (B.queues book.now).stands) }
+    ensures { result ≡ reach order (opposite_orders order (B.queues book.now)) }
 {
     let price = own_price(book, order);
     let open = counted_open_lots(book, order, price);

@@ -1,11 +1,11 @@
-// Which records a removal takes.
+// Which records a removal names.
 ghost use Rattle.std.specs.Prelude.{◌≡◌};
 ghost use Rattle.matching.specs.Removing.{matches_cell, matches_filter, removes};
 
 use orders::order::Order;
 use orders::side::Side;
 
-// A firm's records; a blank cell fits every value.
+/// What a mass cancel names: a firm's records that match every filled cell (rules 14).
 #[derive(Clone, Copy)]
 pub struct CancelFilter {
     pub firm: u16,
@@ -14,7 +14,8 @@ pub struct CancelFilter {
     pub investor: Option<u64>,
 }
 
-// An enum, not a closure: what is removed stands in contracts and laws by the rule's name.
+/// What a mass cancel or a closing removes (rules 14, 15). An enum, so that contracts and laws can name
+/// it.
 #[derive(Clone, Copy)]
 pub enum Removal {
     Matching(CancelFilter),
@@ -28,7 +29,7 @@ fn matches_cell<T: PartialEq + Copy>(cell: Option<T>, value: T) -> bool
 }
 
 impl CancelFilter {
-    // Whether the order matches every filled cell.
+    /// Whether the order is the firm's and matches every filled cell.
     pub fn matches_filter(self, order: Order) -> bool
         ensures { result ≡ matches_filter self order }
     {
@@ -40,6 +41,7 @@ impl CancelFilter {
 }
 
 impl Removal {
+    /// Whether the removal names the order or stop.
     pub fn removes(self, order: Order) -> bool
         ensures { result ≡ removes self order }
     {

@@ -1,4 +1,4 @@
-// Removals: one record, or all that a pick names, in the order of the four queues.
+// Removals: one record, or all that a removal names, in the order of the four queues.
 ghost use Rattle.std.specs.Prelude.{◌≡◌, Some, None};
 ghost use Rattle.matching.specs.Model.{cancels_resting, apply};
 ghost use Rattle.matching.specs.Removing.{swept, removals};
@@ -13,7 +13,7 @@ use orders::side::Side;
 use tapes::cause::Cause;
 use tapes::tape::Tape;
 
-// The record at a place is removed. Where it lies and what it is are given side by side, as a look has told them.
+/// Cancels `record`, which is at place `at` of `queue` (rules 14).
 pub fn cancel_resting<B: Book>(
     book: &mut B,
     tape: &mut Tape,
@@ -22,16 +22,19 @@ pub fn cancel_resting<B: Book>(
     at: usize,
     record: Record,
 )
-    ensures { (c : SessionValue) → match_state (B.queues book.new) tape.new c None ≡ apply (cancels_resting cause queue at «record») (match_state (B.queues book.old) tape.old c None) }
+    ensures { (session : SessionValue) → match_state (B.queues book.new) tape.new session None
+        ≡ apply (cancels_resting cause queue at «record»)
+        (match_state (B.queues book.old) tape.old session None) }
 {
     let _ = book.take(queue, at);
     tape.write(cancelled(record.order(), cause));
 }
 
-// Along a queue, what is picked is pulled and what is not is passed.
-// By place, not by an iterator: a pull changes the queue that is walked, and leaves its place to the next record.
+// Along a queue, what the removal names is cancelled and what it does not is passed.
+// By place, not by an iterator: each cancel changes the queue, and the next record moves up to the place.
 fn sweep<B: Book>(book: &mut B, tape: &mut Tape, removal: Removal, cause: Cause, queue: Queue)
-    ensures { (c : SessionValue) → match_state (B.queues book.new) tape.new c None ≡ swept removal cause queue (match_state (B.queues book.old) tape.old c None) }
+    ensures { (session : SessionValue) → match_state (B.queues book.new) tape.new session None
+        ≡ swept removal cause queue (match_state (B.queues book.old) tape.old session None) }
 {
     let mut at = 0;
     while let Some(record) = book.look(queue, at) {
@@ -43,9 +46,11 @@ fn sweep<B: Book>(book: &mut B, tape: &mut Tape, removal: Removal, cause: Cause,
     }
 }
 
-// All that is picked is removed, in the order of the four queues, by name as the definition has them.
+/// Cancels all that the removal names: bids, offers, buy stops and sell stops, by rank within each
+/// (rules 14, 15).
 pub fn remove<B: Book>(book: &mut B, tape: &mut Tape, removal: Removal, cause: Cause)
-    ensures { (c : SessionValue) → match_state (B.queues book.new) tape.new c None ≡ removals removal cause (match_state (B.queues book.old) tape.old c None) }
+    ensures { (session : SessionValue) → match_state (B.queues book.new) tape.new session None
+        ≡ removals removal cause (match_state (B.queues book.old) tape.old session None) }
 {
     sweep(book, tape, removal, cause, Queue::Orders(Side::Buy));
     sweep(book, tape, removal, cause, Queue::Orders(Side::Sell));

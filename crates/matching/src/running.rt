@@ -1,4 +1,4 @@
-// An incoming order, and the stops that its trades make ripe, until nothing is left to do.
+// The incoming order trades, and then each ripe stop does, until nothing happens next.
 ghost use Rattle.std.specs.Prelude.{◌≡◌, None};
 ghost use Rattle.matching.specs.Running.{run_to_rest};
 ghost use Rattle.matching.specs.MatchStates.{match_state};
@@ -11,14 +11,20 @@ use orders::order::Order;
 use tapes::cause::Cause;
 use tapes::tape::Tape;
 
-// The incoming order trades, then each ripe stop in turn does.
+/// Runs to rest: the incoming order trades and its leftover is settled, then the stops are looked at
+/// (rules 10, 11, 12).
+///
+/// The inner loop ends when there is no incoming order left; each turn of it is one trade, or what
+/// ends the incoming order. The outer loop ends when no stop is ripe; each turn of it triggers one.
+/// Both end because every turn lowers the weight of the match state.
 pub fn run_to_rest<B: Book>(
     book: &mut B,
     tape: &mut Tape,
     session: &mut Session,
     incoming: Option<Order>,
 )
-    ensures { match_state (B.queues book.new) tape.new session.new None ≡ run_to_rest (match_state (B.queues book.old) tape.old session.old incoming) }
+    ensures { match_state (B.queues book.new) tape.new session.new None
+        ≡ run_to_rest (match_state (B.queues book.old) tape.old session.old incoming) }
 {
     let mut incoming = incoming;
     'stops: loop {

@@ -1,20 +1,21 @@
-// The session of a day: the next stamp, and the price of the latest trade.
+// The session of a venue, which outlives closing and opening.
 ghost use Rattle.std.specs.Prelude.{◌≡◌};
 ghost use Rattle.matching.specs.Sessions.{stamp_drawn, undrawn_stamps, session_from};
 
 use orders::price::Price;
 
+/// The next stamp, and the price of the latest trade, if there was one (rules 1, 2, 10).
 #[derive(Clone, Copy)]
 pub struct Session {
     pub next_stamp: u32,
     pub last_price: Option<Price>,
 }
 
-// One past the last stamp.
+// One above the last stamp (rules 2).
 const STAMPS_END: u32 = 1_000_000_000;
 
 impl Session {
-    // A session set to a first stamp, at least 1.
+    /// A session before any trade; a first stamp of 0 counts as 1 (rules 6).
     pub fn from_stamp(stamp: u32) -> Session
         ensures { result ≡ session_from stamp }
     {
@@ -24,7 +25,7 @@ impl Session {
         }
     }
 
-    // Draws the next stamp.
+    /// Draws the next stamp (rules 2).
     pub fn draw(&mut self) -> u32
         ensures answer { result ≡ self.old.next_stamp }
         ensures state { self.new ≡ stamp_drawn self.old }
@@ -36,7 +37,7 @@ impl Session {
         stamp
     }
 
-    // How many stamps are undrawn.
+    /// How many stamps are undrawn (rules 2).
     pub fn undrawn_stamps(self) -> u32
         ensures { result ≡ undrawn_stamps self }
     {

@@ -1,4 +1,4 @@
-// Stops that come into force.
+// Stops that are triggered.
 ghost use Rattle.std.specs.Prelude.{◌≡◌, Some, None};
 ghost use Rattle.matching.specs.Model.{triggers, apply};
 ghost use Rattle.matching.specs.Running.{ripe, if_ripe, first_stop, lower_turn, next_stop};
@@ -15,7 +15,7 @@ use orders::side::Side;
 use tapes::line::Line;
 use tapes::tape::Tape;
 
-// Whether the last price has reached a trigger.
+/// Whether a stop is ripe: the last price has reached its trigger (rules 12).
 pub fn is_ripe(side: Side, last: Option<Price>, trigger: Price) -> bool
     ensures { result ≡ ripe side last trigger }
 {
@@ -30,7 +30,7 @@ fn ripe_first<B: Book>(book: &B, side: Side, last: Option<Price>) -> Option<Stop
     waiting_stop(book.look(Queue::Stops(side), 0)).filter(|x| is_ripe(side, last, x.trigger))
 }
 
-// The ripe first of the two queues with the lower turn.
+/// The stop that is triggered next: of the ripe first ones of both sides, that of the lower turn (rules 12).
 pub fn next_ripe<B: Book>(book: &B, last: Option<Price>) -> Option<(Side, Stop)>
     ensures { result ≡ next_stop last (B.queues book.now) }
 {
@@ -44,7 +44,8 @@ pub fn next_ripe<B: Book>(book: &B, last: Option<Price>) -> Option<(Side, Stop)>
     }
 }
 
-// The first stop of a side leaves its queue, draws a new turn and comes in.
+/// Triggers the first stop of a side, `x`: it leaves its queue and draws a new turn. Answers it as the
+/// incoming order (rules 12).
 pub fn trigger_stop<B: Book>(
     book: &mut B,
     tape: &mut Tape,
@@ -52,7 +53,8 @@ pub fn trigger_stop<B: Book>(
     side: Side,
     x: Stop,
 ) -> Order
-    ensures { match_state (B.queues book.new) tape.new session.new (Some result) ≡ apply (triggers side x) (match_state (B.queues book.old) tape.old session.old None) }
+    ensures { match_state (B.queues book.new) tape.new session.new (Some result)
+        ≡ apply (triggers side x) (match_state (B.queues book.old) tape.old session.old None) }
 {
     let _ = book.take(Queue::Stops(side), 0);
     tape.write(Line::Triggered {

@@ -1,4 +1,4 @@
-// The incoming order and the first opposite one.
+// How the incoming order trades with the first opposite one, and what becomes of its leftover.
 ghost use Rattle.std.specs.Prelude.{◌≡◌, Some, None};
 ghost use Rattle.orders.specs.Sides.{opposite};
 ghost use Rattle.matching.specs.declared.session.Session.{Session as SessionValue};
@@ -16,7 +16,7 @@ use tapes::cause::Cause;
 use tapes::line::Line;
 use tapes::tape::Tape;
 
-// The line of a cancelled order.
+/// The line C of a cancelled order or stop, with its open lots (rules 16).
 pub fn cancelled(order: Order, cause: Cause) -> Line
     ensures { result ≡ line_C cause order }
 {
@@ -28,7 +28,7 @@ pub fn cancelled(order: Order, cause: Cause) -> Line
     }
 }
 
-// The order that stands first on a side.
+/// The order that stands first on a side.
 #[inline(always)]
 pub fn first_order<B: Book>(book: &B, side: Side) -> Option<Order>
     ensures { result ≡ first_order side (B.queues book.now) }
@@ -46,7 +46,7 @@ fn incoming_left(order: Order, lots: u32) -> Option<Order>
     Some(order.refilled(order.turn, lots))
 }
 
-// An order goes back into its queue.
+// A refilled order joins its queue again.
 #[tactic(auto, unfolding(crate::specs::Model::put_back))]
 fn put_back<B: Book>(book: &mut B, order: Order)
     ensures { B.queues book.new ≡ put_back order (B.queues book.old) }
@@ -54,9 +54,12 @@ fn put_back<B: Book>(book: &mut B, order: Order)
     let _ = book.put(Record::Standing(order));
 }
 
-// The first order of a side after a trade: it leaves, shows again behind its price, or stays first.
+// The first order of a side after a trade: filled, it leaves; refilled, it goes behind its price;
+// reduced, it stays first.
 fn after_trade<B: Book>(book: &mut B, session: &mut Session, side: Side, resting: Order, lots: u32)
-    ensures queues { B.queues book.new ≡ after_trade (outcome lots resting) side lots session.old.next_stamp resting (B.queues book.old) }
+    ensures queues { B.queues book.new
+        ≡ after_trade (outcome lots resting) side lots session.old.next_stamp resting
+        (B.queues book.old) }
     ensures session { session.new ≡ session_after_trade (outcome lots resting) session.old }
 {
     if resting.open_lots == lots {
@@ -70,7 +73,8 @@ fn after_trade<B: Book>(book: &mut B, session: &mut Session, side: Side, resting
     }
 }
 
-// One trade of the incoming order with the first opposite one; answers what is left of the incoming order.
+/// One trade of the incoming order with the first opposite one, `resting`. Answers what is left of the
+/// incoming order (rules 10).
 pub fn trade<B: Book>(
     book: &mut B,
     tape: &mut Tape,
@@ -78,7 +82,9 @@ pub fn trade<B: Book>(
     incoming: Order,
     resting: Order,
 ) -> Option<Order>
-    ensures { match_state (B.queues book.new) tape.new session.new result ≡ apply (trades incoming resting) (match_state (B.queues book.old) tape.old session.old (Some incoming)) }
+    ensures { match_state (B.queues book.new) tape.new session.new result
+        ≡ apply (trades incoming resting)
+        (match_state (B.queues book.old) tape.old session.old (Some incoming)) }
 {
     let lots = incoming.open_lots.min(resting.shown);
     tape.write(Line::Traded {
@@ -92,9 +98,12 @@ pub fn trade<B: Book>(
     incoming_left(incoming, lots)
 }
 
-// What becomes of an order that trades no more: it stands, or is cancelled.
+/// Settles a leftover: an IOC one is cancelled, any other stands, or is cancelled where put refuses it
+/// (rules 11).
 pub fn rest_or_cancel<B: Book>(book: &mut B, tape: &mut Tape, order: Order)
-    ensures { (c : SessionValue) → match_state (B.queues book.new) tape.new c None ≡ apply (leftover order (B.queues book.old)) (match_state (B.queues book.old) tape.old c (Some order)) }
+    ensures { (session : SessionValue) → match_state (B.queues book.new) tape.new session None
+        ≡ apply (leftover order (B.queues book.old))
+        (match_state (B.queues book.old) tape.old session (Some order)) }
 {
     if order.validity.is_immediate() {
         tape.write(cancelled(order, Cause::Leftover));
