@@ -3,4 +3,4 @@ pub mod WeightOfQueues
 pub mod WeightFalls
 pub mod LoopTurns
 pub mod ReachByChains
-pub mod SweepTurns
+pub mod SweepByRecord

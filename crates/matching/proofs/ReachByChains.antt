@@ -1,4 +1,4 @@
--- What a walk along the opposite orders tells: recursions in the words of chains, and bounds of sums.
+-- The reach of the definitions is that of chains along the opposite orders, and no sum is too large.
 use Rattle.std.proofs.Common.{◌≡◌, ℕ, ◌+◌, ◌*◌, ◌≤◌, Bool, true, false, cond, not, List, [], ◌∷◌, length, Option, Some, refl, ap, ◌∙◌, arith}
 use Rattle.std.specs.List.{find, take_while, sum_by}
 use Rattle.std.specs.Option.{option_map}
@@ -55,7 +55,7 @@ total_few : (f : Order → ℕ) → ((r : Order) → f r ≤ 1000000) → (l : L
 total_few f h [] = omega arith
 total_few f h (r ∷ l) = omega (arith, sum_by-cons f r l, h r, total_few f h l)
 
--- a million at most of each of a million at most
+-- a million orders at most of a million lots at most
 pub sum_few : (f : Order → ℕ) → ((r : Order) → f r ≤ 1000000) → (l : List Order) → length l ≤ 1000000 → sum_by f l ≤ 1000000 * 1000000
 sum_few f h l n = omega (arith, total_few f h l, n)
 

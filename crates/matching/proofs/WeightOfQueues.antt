@@ -1,4 +1,4 @@
--- What each operation of a book does to the load of the queues.
+-- What each call of a book does to the weight of the queues.
 use Rattle.std.proofs.Common.{Ok, Err, ◌≡◌, ℕ, zero, suc, ◌+◌, ◌*◌, ◌≤◌, Bool, true, false, cond, List, [], ◌∷◌, length, set, Some, refl, ap, arith}
 use Rattle.std.specs.List.{insert, remove, slice_get}
 use Rattle.std.specs.Option.{option_map}
@@ -72,7 +72,7 @@ set_least [] i o = omega arith
 set_least (x ∷ l) zero o = omega (arith, parts_most o, parts_least x)
 set_least (x ∷ l) (suc i) o = omega (arith, set_least l i o)
 
--- whatever a rewrite does, it adds at most fifteen parts
+-- a rewrite swaps one part at least for 16 at most
 pub load_rewritten : (i : ℕ) (o : Order) (q : Queues) → queues_weight (rewritten i (Standing o) q) ≤ queues_weight q + 15
 load_rewritten i o q = go (rewrite_allowed i (Standing o) q)
   where

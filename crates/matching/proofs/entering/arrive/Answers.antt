@@ -8,7 +8,7 @@ use Rattle.matching.specs.Entering.{market_arrival, arrival_as}
 use Rattle.matching.specs.MatchStates.{match_state}
 use Rattle.matching.proofs.entering.arrive.Goals as goal
 
--- nobody stands opposite
+-- no order stands opposite
 pub returns-in-None : goal.returns-in-None
 returns-in-None g c =
     let q = g.B.Book.queues c.args.book.now in
