@@ -12,7 +12,7 @@ use orders::price::Price;
 use orders::side::{Side, UnknownCode, Validity};
 use std::num::TryFromIntError;
 
-// The order types: 2, 4 and K.
+/// The order types as the type cell names them: 2, 4 and K (rules 1).
 #[derive(Clone, Copy, Debug, PartialEq, Eq)]
 pub enum TypeCode {
     Limit,
@@ -24,29 +24,43 @@ pub enum TypeCode {
 #[derive(Clone, Copy)]
 pub(crate) struct Bounds(u64, u64);
 
-pub(crate) const FIRMS: Bounds = Bounds(1, 65_535);
+const HIGHEST_FIRM: u64 = 65_535;
 
-pub(crate) const DAYS: Bounds = Bounds(1, 65_535);
+pub(crate) const FIRMS: Bounds = Bounds(1, HIGHEST_FIRM);
+
+const HIGHEST_DAY: u64 = 65_535;
+
+pub(crate) const DAYS: Bounds = Bounds(1, HIGHEST_DAY);
+
+const HIGHEST_IDENTIFIER: u64 = 999_999_999;
 
 // Client numbers and order numbers.
-pub(crate) const IDENTIFIERS: Bounds = Bounds(1, 999_999_999);
+pub(crate) const IDENTIFIERS: Bounds = Bounds(1, HIGHEST_IDENTIFIER);
 
-pub(crate) const LOTS: Bounds = Bounds(1, 1_000_000);
+const MOST_LOTS: u64 = 1_000_000;
 
-pub(crate) const LOTS_OR_NONE: Bounds = Bounds(0, 1_000_000);
+pub(crate) const LOTS: Bounds = Bounds(1, MOST_LOTS);
 
-pub(crate) const INVESTORS: Bounds = Bounds(0, 999_999_999_999);
+pub(crate) const LOTS_OR_NONE: Bounds = Bounds(0, MOST_LOTS);
 
-pub(crate) const TAGS: Bounds = Bounds(0, 255);
+const HIGHEST_INVESTOR: u64 = 999_999_999_999;
+
+pub(crate) const INVESTORS: Bounds = Bounds(0, HIGHEST_INVESTOR);
+
+const HIGHEST_TAG: u64 = 255;
+
+pub(crate) const TAGS: Bounds = Bounds(0, HIGHEST_TAG);
 
 impl Bounds {
-    // The number as the type that is wanted, if it is within the bounds.
+    // The number as the type that is wanted, or cell `at` is out of range.
     pub(crate) fn read<T: Drop + TryFrom<u64, Error = TryFromIntError>>(
         self,
         at: u8,
         value: u64,
     ) -> Result<T, Refusal>
-        ensures { (r : _) × T.try_from_gives value r × (result ≡ and_then (number_in self.0 self.1 at value) (λ v. in_range at (result_ok r))) }
+        ensures { (typed : _) × T.try_from_gives value typed
+            × (result
+            ≡ and_then (number_in self.0 self.1 at value) (λ _. in_range at (result_ok typed))) }
     {
         let Bounds(low, high) = self;
         match T::try_from(value) {
@@ -63,14 +77,14 @@ pub(crate) fn filled<C>(at: u8, cell: Option<C>) -> Result<C, Refusal>
     cell.ok_or(Refusal::WrongBlank { cell: at })
 }
 
-// Two of one line: a generic one would have to say in its clause what try_from gave.
-
+/// The side of a code, or cell `at` is out of range.
 pub fn side_in(at: u8, value: u64) -> Result<Side, Refusal>
     ensures { result ≡ side_in at value }
 {
     Side::try_from(value).map_err(|_| Refusal::OutOfRange { cell: at })
 }
 
+/// The validity of a code, or cell `at` is out of range.
 pub fn validity_in(at: u8, value: u64) -> Result<Validity, Refusal>
     ensures { result ≡ validity_in at value }
 {
@@ -92,7 +106,7 @@ impl TryFrom<u8> for TypeCode {
     }
 }
 
-// A price, which may be blank in every form.
+/// A price that may be blank; cell `at` is out of range where its price is.
 pub fn price_if_filled(at: u8, cell: Option<Price>) -> Result<Option<Price>, Refusal>
     ensures { result ≡ if_filled (price_in at) cell }
 {

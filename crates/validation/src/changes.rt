@@ -7,7 +7,7 @@ use forms::form::ChangeForm;
 use forms::refusal::Refusal;
 use matching::amendment::Amendment;
 
-// Whose order is to be changed, and how.
+/// Whose order is to be changed, by its number, and how (rules 13).
 #[derive(Clone, Copy)]
 pub struct AmendRequest {
     pub firm: u16,
@@ -15,7 +15,7 @@ pub struct AmendRequest {
     pub change: Amendment,
 }
 
-// What the form asks for, or why it is refused.
+/// What the form asks for, or the first of 7, 8 and 9 that applies (numbers 5).
 pub fn validate_change(form: ChangeForm) -> Result<AmendRequest, Refusal>
     ensures { result ≡ validate_change form }
 {

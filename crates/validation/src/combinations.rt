@@ -5,15 +5,18 @@ ghost use Rattle.validation.specs.Combinations.{disclosed_barred, barred};
 use matching::new_order::{NewOrder, OrderType};
 use orders::side::Validity;
 
-// An order shows at most 16 parts.
-const PARTS: u64 = 16;
+// An order is shown in at most 16 parts: one shown and 15 hidden (rules 3).
+const MOST_PARTS: u64 = 16;
 
+/// Whether a disclosed does not fit a quantity, both in lots (rules 8, 13).
 pub fn is_disclosed_barred(quantity: u32, disclosed: u32) -> bool
     ensures { result ≡ disclosed_barred quantity disclosed }
 {
-    quantity < disclosed || (disclosed > 0 && PARTS * u64::from(disclosed) < u64::from(quantity))
+    quantity < disclosed
+        || (disclosed > 0 && MOST_PARTS * u64::from(disclosed) < u64::from(quantity))
 }
 
+/// Whether the values of an entry do not go together (rules 8).
 pub fn is_barred(new_order: NewOrder) -> bool
     ensures { result ≡ barred new_order }
 {

@@ -55,7 +55,8 @@ fn check_blanks(form: EntryForm) -> Result<(), Refusal>
     Ok(())
 }
 
-// The type with its prices; one that is missing counts as out of range.
+// The type with its prices. The type cell is out of range where a price is missing, which the check
+// of the blanks has ruled out.
 fn order_type_of(
     order_type: TypeCode,
     price: Option<Price>,
@@ -74,7 +75,7 @@ fn order_type_of(
     }
 }
 
-// Every cell within its range. Cells that must be filled were refused blank before; any blank one reads 0, as in the definition.
+// Every cell within its range. Cells that must be filled were checked before; a blank one reads 0.
 fn typed_entry(form: EntryForm) -> Result<NewOrder, Refusal>
     ensures { result ≡ typed_entry form }
 {
@@ -105,7 +106,7 @@ fn typed_entry(form: EntryForm) -> Result<NewOrder, Refusal>
     })
 }
 
-// What the form asks for, or why it is refused: blanks, then ranges, then barred combinations.
+/// What the form asks for, or the first of 7, 8 and 9 that applies (numbers 5).
 pub fn validate_entry(form: EntryForm) -> Result<NewOrder, Refusal>
     ensures { result ≡ validate_entry form }
 {

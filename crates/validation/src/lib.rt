@@ -1,4 +1,4 @@
-// From the cells of a form to what is asked: the numbers 7, 8 and 9.
+// Validation: from the cells of a form to what is asked, or a refusal of number 7, 8 or 9.
 #![tactic(auto)]
 
 pub mod cells;

@@ -7,13 +7,14 @@ use forms::form::{CancelForm, MassCancelForm, OpeningForm};
 use forms::refusal::Refusal;
 use matching::removal::CancelFilter;
 
-// Whose order or stop is to be cancelled.
+/// Whose order or stop is to be cancelled, by its number (rules 14).
 #[derive(Clone, Copy)]
 pub struct CancelRequest {
     pub firm: u16,
     pub number: u32,
 }
 
+/// What the form asks for, or the first of 7 and 8 that applies (numbers 5).
 pub fn validate_cancel(form: CancelForm) -> Result<CancelRequest, Refusal>
     ensures { result ≡ validate_cancel form }
 {
@@ -24,6 +25,7 @@ pub fn validate_cancel(form: CancelForm) -> Result<CancelRequest, Refusal>
     Ok(CancelRequest { firm, number })
 }
 
+/// What the form asks for, or the first of 7 and 8 that applies (numbers 5).
 pub fn validate_mass_cancel(form: MassCancelForm) -> Result<CancelFilter, Refusal>
     ensures { result ≡ validate_mass_cancel form }
 {
@@ -39,7 +41,7 @@ pub fn validate_mass_cancel(form: MassCancelForm) -> Result<CancelFilter, Refusa
     })
 }
 
-// The day that is to be opened.
+/// The day that is to be opened, or the first of 7 and 8 that applies (numbers 5).
 pub fn validate_opening(form: OpeningForm) -> Result<u16, Refusal>
     ensures { result ≡ validate_opening form }
 {

@@ -3,7 +3,7 @@ use Rattle.std.proofs.lemmas.Grind.{common_steps}
 use Rattle.validation.proofs.InBoundsReads.{reads_as}
 use Rattle.validation.proofs.entries.typed_entry.Goals as goal
 
--- each number as it was read
+-- each number reads as itself, within its bounds and its type
 pub returns : goal.returns
 returns c = grind (
   arith,

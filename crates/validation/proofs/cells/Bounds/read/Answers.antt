@@ -1,7 +1,7 @@
 use Rattle.std.proofs.Common.{rules}
 use Rattle.validation.proofs.cells.Bounds.read.Goals as goal
 
--- by what try_from gave
+-- what try_from answered is the number that the clause asks for
 pub returns-in-Ok : goal.returns-in-Ok
 returns-in-Ok g c = (c.try_from.result, c.try_from.ensures, search rules)
 
