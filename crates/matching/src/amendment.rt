@@ -49,7 +49,8 @@ impl Amendment {
         self.new_quantity(order).saturating_sub(traded)
     }
 
-    /// Whether the order loses its turn: another price, a larger quantity or another disclosed (rules 13).
+    /// Whether the order loses its turn: for another price, a larger quantity or another disclosed
+    /// (rules 13).
     pub fn loses_turn(self, order: Order) -> bool
         ensures { result ≡ loses_turn self order }
     {

@@ -17,8 +17,8 @@ pub enum OrderType {
     StopLimit { limit: Price, trigger: Price },
 }
 
-/// An entry: quantity, disclosed and minimum in lots; disclosed, minimum and investor are 0 for none
-/// (rules 1).
+/// An entry. Quantity, disclosed and minimum are in lots; disclosed, minimum and investor are 0 for
+/// none (rules 1).
 #[derive(Clone, Copy)]
 pub struct NewOrder {
     pub firm: u16,
@@ -34,7 +34,7 @@ pub struct NewOrder {
 }
 
 impl NewOrder {
-    /// The order that is entered, wholly open; the stamp is its number and its first turn (rules 8).
+    /// The order that is entered, wholly open; the stamp is its number and first turn (rules 8).
     pub fn order(self, price: Price, stamp: u32) -> Order
         ensures { result ≡ entered_order self price stamp }
     {

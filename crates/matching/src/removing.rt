@@ -31,7 +31,7 @@ pub fn cancel_resting<B: Book>(
 }
 
 // Along a queue, what the removal names is cancelled and what it does not is passed.
-// By place, not by an iterator: each cancel changes the queue, and the next record moves up to the place.
+// By place, not by an iterator: a cancel changes the queue, and the next record moves up.
 fn sweep<B: Book>(book: &mut B, tape: &mut Tape, removal: Removal, cause: Cause, queue: Queue)
     ensures { (session : SessionValue) → match_state (B.queues book.new) tape.new session None
         ≡ swept removal cause queue (match_state (B.queues book.old) tape.old session None) }

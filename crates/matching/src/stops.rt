@@ -30,7 +30,8 @@ fn ripe_first<B: Book>(book: &B, side: Side, last: Option<Price>) -> Option<Stop
     waiting_stop(book.look(Queue::Stops(side), 0)).filter(|x| is_ripe(side, last, x.trigger))
 }
 
-/// The stop that is triggered next: of the ripe first ones of both sides, that of the lower turn (rules 12).
+/// The stop that is triggered next: of the first stops that are ripe, that of the lower turn
+/// (rules 12).
 pub fn next_ripe<B: Book>(book: &B, last: Option<Price>) -> Option<(Side, Stop)>
     ensures { result ≡ next_stop last (B.queues book.now) }
 {
@@ -44,7 +45,7 @@ pub fn next_ripe<B: Book>(book: &B, last: Option<Price>) -> Option<(Side, Stop)>
     }
 }
 
-/// Triggers the first stop of a side, `x`: it leaves its queue and draws a new turn. Answers it as the
+/// Triggers the first stop of a side, `x`: it leaves its queue and draws a new turn. Answers the
 /// incoming order (rules 12).
 pub fn trigger_stop<B: Book>(
     book: &mut B,

@@ -73,8 +73,8 @@ fn after_trade<B: Book>(book: &mut B, session: &mut Session, side: Side, resting
     }
 }
 
-/// One trade of the incoming order with the first opposite one, `resting`. Answers what is left of the
-/// incoming order (rules 10).
+/// One trade of the incoming order with the first opposite one, `resting`. Answers what it leaves
+/// of the incoming order (rules 10).
 pub fn trade<B: Book>(
     book: &mut B,
     tape: &mut Tape,
@@ -98,8 +98,8 @@ pub fn trade<B: Book>(
     incoming_left(incoming, lots)
 }
 
-/// Settles a leftover: an IOC one is cancelled, any other stands, or is cancelled where put refuses it
-/// (rules 11).
+/// Settles a leftover: an IOC one is cancelled, any other stands, or is cancelled where put refuses
+/// it (rules 11).
 pub fn rest_or_cancel<B: Book>(book: &mut B, tape: &mut Tape, order: Order)
     ensures { (session : SessionValue) → match_state (B.queues book.new) tape.new session None
         ≡ apply (leftover order (B.queues book.old))
