@@ -1,5 +1,8 @@
--- The state of a venue, and what every step makes of it.
-use Rattle.std.specs.Prelude.{max, ◌≡◌, ℕ, cond, None, Ok, Err, Result, nat_lt}
+-- The state of a venue, and what each step answers and leaves.
+--   step        entry, change, cancel, mass cancel, closing or opening (rules 1)
+--   day         whether the day is open or closed, its number, and the session (rules 1)
+--   setting up  clears book and tape and opens the first day (rules 6)
+use Rattle.std.specs.Prelude.{max, ◌≡◌, ℕ, None, Ok, Err, Result}
 use Rattle.books.specs.Model.{Queues, cleared}
 use Rattle.tapes.specs.declared.tape.Tape.{Tape}
 use Rattle.tapes.specs.Logs.{Log, empty_log}
@@ -11,6 +14,7 @@ use Rattle.forms.specs.declared.refusal.Refusal.TheVariants.{WrongDay}
 use Rattle.matching.specs.declared.session.Session.{Session}
 use Rattle.matching.specs.Sessions.{session_from}
 use Rattle.matching.specs.Model.{MatchState}
+use Rattle.matching.specs.MatchStates.{match_state}
 use Rattle.forms.specs.Results.{and_then}
 use Rattle.validation.specs.Entries.{validate_entry}
 use Rattle.validation.specs.Changes.{validate_change}
@@ -27,112 +31,134 @@ pub record State : Type 0 where
   pub tape : Log
   pub day : Day
 
--- what a book, a tape and a day mean together
+-- the state of a book, a tape and a day
 abbrev pub state : Queues → Tape → Day → State
-state q t d = record { queues = q; tape = t; day = d }
+state queues tape day = record { queues = queues; tape = tape; day = day }
 
 -- between steps no order is incoming
 abbrev pub between_steps : Queues → Log → Session → MatchState
-between_steps q r c = record { queues = q; incoming = None; tape = r; session = c }
+between_steps queues tape session = match_state queues tape session None
 
+-- the match state on an open day of a number
 abbrev pub opened : ℕ → MatchState → State
-opened d f = record { queues = f.queues; tape = f.tape; day = Open (record { day = d; session = f.session }) }
+opened number current = record {
+  queues = current.queues;
+  tape = current.tape;
+  day = Open (record { day = number; session = current.session });
+}
 
+-- the match state on a closed day of a number
 abbrev pub closed : ℕ → MatchState → State
-closed d f = record { queues = f.queues; tape = f.tape; day = Closed (record { day = d; session = f.session }) }
+closed number current = record {
+  queues = current.queues;
+  tape = current.tape;
+  day = Closed (record { day = number; session = current.session });
+}
 
 abbrev pub at_least_1 : ℕ → ℕ
 at_least_1 n = max n 1
 
--- setting up clears book and tape and opens the day
+-- book and tape are cleared, and the day is open; a day or a stamp of 0 counts as 1 (rules 6)
 abbrev pub set_up : (day stamp : ℕ) → Queues → ℕ → State
-set_up day stamp q limit = opened (at_least_1 day) (between_steps (cleared q) (empty_log limit) (session_from stamp))
+set_up day stamp queues limit =
+    opened (at_least_1 day) (between_steps (cleared queues) (empty_log limit) (session_from stamp))
 
--- a refused closing or opening hands the day back
+-- a closing removes Day orders and closes the day; a refused one leaves it open (rules 7, 15)
 abbrev pub after_closing : Result (Unit {0}) Refusal → ℕ → MatchState → State
-after_closing (Ok x) d f = closed d (cancel_day_orders f)
-after_closing (Err e) d f = opened d f
+after_closing (Ok _) number current = closed number (cancel_day_orders current)
+after_closing (Err _) number current = opened number current
 
+-- an opening opens the day that it names; a refused one leaves the day closed (rules 7, 15)
 abbrev pub after_opening : Result ℕ Refusal → ℕ → MatchState → State
-after_opening (Ok day) d f = opened day f
-after_opening (Err e) d f = closed d f
+after_opening (Ok next) number current = opened next current
+after_opening (Err _) number current = closed number current
 
--- cells are looked at before the day
+-- cells are checked before the day (numbers 5)
 abbrev pub wrong_day : {A : Type 0} → Result A Refusal → Result (Unit {0}) Refusal
-wrong_day r = and_then r (λ _. Err WrongDay)
+wrong_day validated = and_then validated (λ _. Err WrongDay)
 
--- the answer on an open and on a closed day
-
+-- what a form is answered on an open day (rules 15)
 abbrev pub answer_open : Form → MatchState → Result (Unit {0}) Refusal
-answer_open (Entry form) f = answered (entry_answer form f)
-answer_open (Change form) f = answered (change_answer form f)
-answer_open (Cancel form) f = answered (cancel_answer form f.queues f.tape)
-answer_open (MassCancel form) f = answered (mass_cancel_answer form f.queues f.tape)
-answer_open Closing f = lines_free f.queues f.tape
-answer_open (Opening form) f = wrong_day (validate_opening form)
+answer_open (Entry form) current = answered (entry_answer form current)
+answer_open (Change form) current = answered (change_answer form current)
+answer_open (Cancel form) current = answered (cancel_answer form current.queues current.tape)
+answer_open (MassCancel form) current =
+    answered (mass_cancel_answer form current.queues current.tape)
+answer_open Closing current = lines_free current.queues current.tape
+answer_open (Opening form) current = wrong_day (validate_opening form)
 
+-- what any form but an opening is answered on a closed day (rules 15)
 abbrev pub closed_refusal : Form → Result (Unit {0}) Refusal
 closed_refusal (Entry form) = wrong_day (validate_entry form)
 closed_refusal (Change form) = wrong_day (validate_change form)
 closed_refusal (Cancel form) = wrong_day (validate_cancel form)
 closed_refusal (MassCancel form) = wrong_day (validate_mass_cancel form)
-closed_refusal Closing = Err WrongDay
-closed_refusal (Opening form) = Err WrongDay
+closed_refusal _ = Err WrongDay
 
+-- what a form is answered on a closed day of a number (rules 15)
 abbrev pub answer_closed : Form → ℕ → MatchState → Result (Unit {0}) Refusal
-answer_closed (Entry form) d f = closed_refusal (Entry form)
-answer_closed (Change form) d f = closed_refusal (Change form)
-answer_closed (Cancel form) d f = closed_refusal (Cancel form)
-answer_closed (MassCancel form) d f = closed_refusal (MassCancel form)
-answer_closed Closing d f = closed_refusal Closing
-answer_closed (Opening form) d f = answered (opening_result form d f.queues f.tape)
+answer_closed (Opening form) number current =
+    answered (opening_result form number current.queues current.tape)
+answer_closed form number current = closed_refusal form
 
--- what stays behind
-
+-- what a form leaves on an open day of a number
 abbrev pub step_open : Form → ℕ → MatchState → State
-step_open (Entry form) d f = opened d (after_entry form f)
-step_open (Change form) d f = opened d (after_change_step form f)
-step_open (Cancel form) d f = opened d (after_cancel form f)
-step_open (MassCancel form) d f = opened d (after_mass_cancel form f)
-step_open Closing d f = after_closing (lines_free f.queues f.tape) d f
-step_open (Opening form) d f = opened d f
+step_open (Entry form) number current = opened number (after_entry form current)
+step_open (Change form) number current = opened number (after_change_step form current)
+step_open (Cancel form) number current = opened number (after_cancel form current)
+step_open (MassCancel form) number current = opened number (after_mass_cancel form current)
+step_open Closing number current =
+    after_closing (lines_free current.queues current.tape) number current
+step_open (Opening form) number current = opened number current
 
+-- what a form leaves on a closed day of a number
 abbrev pub step_closed : Form → ℕ → MatchState → State
-step_closed (Entry form) d f = closed d f
-step_closed (Change form) d f = closed d f
-step_closed (Cancel form) d f = closed d f
-step_closed (MassCancel form) d f = closed d f
-step_closed Closing d f = closed d f
-step_closed (Opening form) d f = after_opening (opening_result form d f.queues f.tape) d f
+step_closed (Opening form) number current =
+    after_opening (opening_result form number current.queues current.tape) number current
+step_closed _ number current = closed number current
 
 abbrev pub answer_on : Day → Form → Queues → Log → Result (Unit {0}) Refusal
-answer_on (Open o) form q r = answer_open form (between_steps q r o.session)
-answer_on (Closed c) form q r = answer_closed form c.day (between_steps q r c.session)
+answer_on (Open day) form queues tape =
+    answer_open form (between_steps queues tape day.session)
+answer_on (Closed day) form queues tape =
+    answer_closed form day.day (between_steps queues tape day.session)
 
 abbrev pub step_on : Day → Form → Queues → Log → State
-step_on (Open o) form q r = step_open form o.day (between_steps q r o.session)
-step_on (Closed c) form q r = step_closed form c.day (between_steps q r c.session)
+step_on (Open day) form queues tape =
+    step_open form day.day (between_steps queues tape day.session)
+step_on (Closed day) form queues tape =
+    step_closed form day.day (between_steps queues tape day.session)
 
+-- what a form is answered: accepted, or why it is refused
 abbrev pub answer : Form → State → Result (Unit {0}) Refusal
-answer form s = answer_on s.day form s.queues s.tape
+answer form before = answer_on before.day form before.queues before.tape
 
+-- the state that a form leaves
 abbrev pub step : Form → State → State
-step form s = step_on s.day form s.queues s.tape
+step form before = step_on before.day form before.queues before.tape
 
--- what closing an open day answers: the closed day, or the open one back with the refusal
+-- the day after a closing and its answer: the closed day, or the open one with the refusal
 abbrev pub closing_answer : Result ClosedDay (OpenDay × Refusal) → Day × Result (Unit {0}) Refusal
-closing_answer (Ok c) = (Closed c, Ok tt)
-closing_answer (Err p) = (Open p.0, Err p.1)
+closing_answer (Ok day) = (Closed day, Ok tt)
+closing_answer (Err back) = (Open back.0, Err back.1)
 
-pub record Closes (o : OpenDay) (q : Queues) (t : Tape) (r : Result ClosedDay (OpenDay × Refusal)) (q' : Queues) (t' : Tape) : Type 0 where
-  pub answer_is : (closing_answer r).1 ≡ answer Closing (state q t (Open o))
-  pub state_is : state q' t' (closing_answer r).0 ≡ step Closing (state q t (Open o))
+-- what closing an open day returns and leaves
+pub record Closes
+    (day : OpenDay) (queues : Queues) (tape : Tape)
+    (result : Result ClosedDay (OpenDay × Refusal)) (queues' : Queues) (tape' : Tape) : Type 0 where
+  pub answer_is : (closing_answer result).1 ≡ answer Closing (state queues tape (Open day))
+  pub state_is : state queues' tape' (closing_answer result).0
+      ≡ step Closing (state queues tape (Open day))
 
--- what opening a closed day answers: the open day, or the closed one back with the refusal
+-- the day after an opening and its answer: the open day, or the closed one with the refusal
 abbrev pub opening_answer : Result OpenDay (ClosedDay × Refusal) → Day × Result (Unit {0}) Refusal
-opening_answer (Ok o) = (Open o, Ok tt)
-opening_answer (Err p) = (Closed p.0, Err p.1)
+opening_answer (Ok day) = (Open day, Ok tt)
+opening_answer (Err back) = (Closed back.0, Err back.1)
 
-pub record Opens (form : OpeningForm) (c : ClosedDay) (q : Queues) (t : Tape) (r : Result OpenDay (ClosedDay × Refusal)) : Type 0 where
-  pub answer_is : (opening_answer r).1 ≡ answer (Opening form) (state q t (Closed c))
-  pub state_is : state q t (opening_answer r).0 ≡ step (Opening form) (state q t (Closed c))
+-- what opening a closed day returns; book and tape stay
+pub record Opens
+    (form : OpeningForm) (day : ClosedDay) (queues : Queues) (tape : Tape)
+    (result : Result OpenDay (ClosedDay × Refusal)) : Type 0 where
+  pub answer_is : (opening_answer result).1 ≡ answer (Opening form) (state queues tape (Closed day))
+  pub state_is : state queues tape (opening_answer result).0
+      ≡ step (Opening form) (state queues tape (Closed day))

@@ -1,5 +1,5 @@
--- Whether the tape and the stamps suffice for a step.
-use Rattle.std.specs.Prelude.{ℕ, ◌+◌, ◌*◌, cond, Ok, Err, Result, nat_lt}
+-- Whether the tape and the stamps suffice for a step (rules 7).
+use Rattle.std.specs.Prelude.{ℕ, ◌+◌, ◌*◌, Ok, Err, Result, nat_lt, if◌then◌else◌}
 use Rattle.orders.specs.declared.side.Side.TheVariants.{Buy, Sell}
 use Rattle.books.specs.declared.queue.Queue.TheVariants.{Orders, Stops}
 use Rattle.books.specs.Model.{Queues, count}
@@ -8,17 +8,24 @@ use Rattle.forms.specs.declared.refusal.Refusal.{Refusal}
 use Rattle.forms.specs.declared.refusal.Refusal.TheVariants.{TapeFull, NoStamps}
 use Rattle.matching.specs.declared.session.Session.{Session}
 use Rattle.matching.specs.Sessions.{undrawn_stamps}
+use Rattle.venue.specs.declared.room.TheConstants.{ROOM_PER_RECORD}
 
--- standing and waiting
+-- standing orders and waiting stops (rules 1)
 abbrev pub records : Queues → ℕ
-records q = count (Orders Buy) q + count (Orders Sell) q + count (Stops Buy) q + count (Stops Sell) q
+records queues =
+    count (Orders Buy) queues + count (Orders Sell) queues
+    + count (Stops Buy) queues + count (Stops Sell) queues
 
--- twenty for each record and one more
+-- 20 lines or stamps for each record and one more (rules 7)
 abbrev pub needed : Queues → ℕ
-needed q = 20 * (records q + 1)
+needed queues = ROOM_PER_RECORD * (records queues + 1)
 
+-- the tape has the free lines that a step may need, or 22 (rules 7)
 abbrev pub lines_free : Queues → Log → Result (Unit {0}) Refusal
-lines_free q r = cond (nat_lt (free_lines r) (needed q)) (Err TapeFull) (Ok tt)
+lines_free queues tape =
+    if nat_lt (free_lines tape) (needed queues) then Err TapeFull else Ok tt
 
+-- as many stamps are undrawn as an entry or a change may need, or 23 (rules 7)
 abbrev pub stamps_free : Queues → Session → Result (Unit {0}) Refusal
-stamps_free q c = cond (nat_lt (undrawn_stamps c) (needed q)) (Err NoStamps) (Ok tt)
+stamps_free queues session =
+    if nat_lt (undrawn_stamps session) (needed queues) then Err NoStamps else Ok tt

@@ -1,5 +1,5 @@
--- The steps of an open day: what each is told, and what it leaves.
-use Rattle.std.specs.Prelude.{ℕ, cond, Some, None, Ok, Err, Result, nat_le, nat_lt}
+-- What each step answers, and what an accepted one does.
+use Rattle.std.specs.Prelude.{ℕ, Some, None, Ok, Err, Result, nat_le, nat_lt, if◌then◌else◌}
 use Rattle.orders.specs.declared.order.Order.{Order}
 use Rattle.books.specs.Model.{Queues}
 use Rattle.tapes.specs.Logs.{Log}
@@ -30,93 +30,109 @@ use Rattle.venue.specs.declared.plan.AmendPlan.{AmendPlan}
 use Rattle.venue.specs.Rooms.{lines_free, stamps_free}
 use Rattle.venue.specs.Known.{client_free, firms_record, standing_in}
 
--- the answer without what it found
+-- the answer without the plan that an accepted step has
 abbrev pub answered : {A : Type 0} → Result A Refusal → Result (Unit {0}) Refusal
-answered (Ok a) = Ok tt
-answered (Err e) = Err e
+answered (Ok _) = Ok tt
+answered (Err refusal) = Err refusal
 
--- a refused step leaves the match state as it was
-abbrev pub after_answer : {A : Type 0} → (A → MatchState → MatchState) → Result A Refusal → MatchState → MatchState
-after_answer act (Ok a) f = act a f
-after_answer act (Err e) f = f
+-- an accepted step acts on the match state; a refused one leaves it as it was (rules 7)
+abbrev pub after_answer : {A : Type 0} →
+    (A → MatchState → MatchState) → Result A Refusal → MatchState → MatchState
+after_answer act (Ok plan) state = act plan state
+after_answer act (Err _) state = state
 
--- entry
+-- entry (rules 8; numbers 5)
 
 abbrev pub entry_answer : EntryForm → MatchState → Result Entry Refusal
-entry_answer form f =
-    and_then (validate_entry form) (λ a.
-    and_then (lines_free f.queues f.tape) (λ _.
-    and_then (stamps_free f.queues f.session) (λ _.
-    and_then (client_free a.firm a.client None f.queues) (λ _.
-    Ok a))))
+entry_answer form state =
+    and_then (validate_entry form) (λ new_order.
+    and_then (lines_free state.queues state.tape) (λ _.
+    and_then (stamps_free state.queues state.session) (λ _.
+    and_then (client_free new_order.firm new_order.client None state.queues) (λ _.
+    Ok new_order))))
 
 abbrev pub after_entry : EntryForm → MatchState → MatchState
-after_entry form f = after_answer enter (entry_answer form f) f
+after_entry form state = after_answer enter (entry_answer form state) state
 
--- change
+-- change (rules 13; numbers 5)
 
--- the new quantity is above the lots traded
+-- the new quantity is above the lots already traded, or 28 (rules 13)
 abbrev pub check_quantity : Amendment → Order → Result (Unit {0}) Refusal
-check_quantity c o = cond (nat_le (new_quantity c o) (lots_traded o)) (Err QuantityTraded) (Ok tt)
+check_quantity amendment order =
+    if nat_le (new_quantity amendment order) (lots_traded order) then Err QuantityTraded else Ok tt
 
+-- the disclosed after the change fits the quantity, or 29 (rules 13)
 abbrev pub check_disclosed : Amendment → Order → Result (Unit {0}) Refusal
-check_disclosed c o = cond (disclosed_barred (new_quantity c o) (new_disclosed c o)) (Err DisclosedBarred) (Ok tt)
+check_disclosed amendment order =
+    if disclosed_barred (new_quantity amendment order) (new_disclosed amendment order)
+    then Err DisclosedBarred
+    else Ok tt
 
+-- what the change will do to the record that was found
 abbrev pub plan_for : AmendRequest → Found → Result AmendPlan Refusal
-plan_for a x =
-    and_then (standing_in x.«record») (λ o.
-    and_then (check_quantity a.change o) (λ _.
-    and_then (check_disclosed a.change o) (λ _.
-    Ok (record { change = a.change; at = x.at; order = o }))))
+plan_for request target =
+    and_then (standing_in target.«record») (λ order.
+    and_then (check_quantity request.change order) (λ _.
+    and_then (check_disclosed request.change order) (λ _.
+    Ok (record { change = request.change; at = target.at; order = order }))))
+
+-- no record of the firm but the changed one has the new client number, or 25 (rules 13)
+abbrev pub new_client_free : AmendRequest → Queues → Result (Unit {0}) Refusal
+new_client_free request queues =
+    client_free request.firm request.change.client (Some request.number) queues
 
 abbrev pub change_answer : ChangeForm → MatchState → Result AmendPlan Refusal
-change_answer form f =
-    and_then (validate_change form) (λ a.
-    and_then (lines_free f.queues f.tape) (λ _.
-    and_then (stamps_free f.queues f.session) (λ _.
-    and_then (firms_record a.firm a.number f.queues) (λ x.
-    and_then (client_free a.firm a.change.client (Some a.number) f.queues) (λ _.
-    plan_for a x)))))
+change_answer form state =
+    and_then (validate_change form) (λ request.
+    and_then (lines_free state.queues state.tape) (λ _.
+    and_then (stamps_free state.queues state.session) (λ _.
+    and_then (firms_record request.firm request.number state.queues) (λ target.
+    and_then (new_client_free request state.queues) (λ _.
+    plan_for request target)))))
 
 abbrev pub carry_out_plan : AmendPlan → MatchState → MatchState
-carry_out_plan p f = change_at p.change p.order.side p.at p.order f
+carry_out_plan plan state = change_at plan.change plan.order.side plan.at plan.order state
 
 abbrev pub after_change_step : ChangeForm → MatchState → MatchState
-after_change_step form f = after_answer carry_out_plan (change_answer form f) f
+after_change_step form state = after_answer carry_out_plan (change_answer form state) state
 
--- cancel and mass cancel
+-- cancel and mass cancel (rules 14; numbers 5)
 
 abbrev pub cancel_answer : CancelForm → Queues → Log → Result Found Refusal
-cancel_answer form q r =
-    and_then (validate_cancel form) (λ a.
-    and_then (lines_free q r) (λ _.
-    firms_record a.firm a.number q))
+cancel_answer form queues tape =
+    and_then (validate_cancel form) (λ request.
+    and_then (lines_free queues tape) (λ _.
+    firms_record request.firm request.number queues))
 
 abbrev pub cancel_found : Found → MatchState → MatchState
-cancel_found x f = apply (cancels_resting Requested x.queue x.at x.«record») f
+cancel_found target state =
+    apply (cancels_resting NewOrder target.queue target.at target.«record») state
 
 abbrev pub after_cancel : CancelForm → MatchState → MatchState
-after_cancel form f = after_answer cancel_found (cancel_answer form f.queues f.tape) f
+after_cancel form state =
+    after_answer cancel_found (cancel_answer form state.queues state.tape) state
 
 abbrev pub mass_cancel_answer : MassCancelForm → Queues → Log → Result CancelFilter Refusal
-mass_cancel_answer form q r =
-    and_then (validate_mass_cancel form) (λ w.
-    and_then (lines_free q r) (λ _.
-    Ok w))
+mass_cancel_answer form queues tape =
+    and_then (validate_mass_cancel form) (λ filter.
+    and_then (lines_free queues tape) (λ _.
+    Ok filter))
 
 abbrev pub cancel_matching : CancelFilter → MatchState → MatchState
-cancel_matching w f = removals (Matching w) Requested f
+cancel_matching filter state = removals (Matching filter) NewOrder state
 
 abbrev pub after_mass_cancel : MassCancelForm → MatchState → MatchState
-after_mass_cancel form f = after_answer cancel_matching (mass_cancel_answer form f.queues f.tape) f
+after_mass_cancel form state =
+    after_answer cancel_matching (mass_cancel_answer form state.queues state.tape) state
 
--- closing and opening
+-- closing and opening (rules 15; numbers 5)
 
 abbrev pub cancel_day_orders : MatchState → MatchState
-cancel_day_orders f = removals DayOrders DayClosed f
+cancel_day_orders state = removals DayOrders DayClosed state
 
+-- the day that an opening names, which is later than the present one, or 30
 abbrev pub opening_result : OpeningForm → ℕ → Queues → Log → Result ℕ Refusal
-opening_result form day q r =
-    and_then (validate_opening form) (λ d.
-    and_then (lines_free q r) (λ _.
-    cond (nat_lt day d) (Ok d) (Err DayNotLater)))
+opening_result form day queues tape =
+    and_then (validate_opening form) (λ next.
+    and_then (lines_free queues tape) (λ _.
+    if nat_lt day next then Ok next else Err DayNotLater))

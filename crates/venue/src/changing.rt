@@ -21,7 +21,7 @@ use tapes::tape::Tape;
 use validation::changes::{AmendRequest, validate_change};
 use validation::combinations::is_disclosed_barred;
 
-// The new quantity is above the lots traded.
+// The new quantity must be above the lots already traded.
 fn check_quantity(request: Amendment, order: Order) -> Result<(), Refusal>
     ensures { result ≡ check_quantity request order }
 {
@@ -32,6 +32,7 @@ fn check_quantity(request: Amendment, order: Order) -> Result<(), Refusal>
     }
 }
 
+// The disclosed after the change must fit the quantity.
 fn check_disclosed(request: Amendment, order: Order) -> Result<(), Refusal>
     ensures { result ≡ check_disclosed request order }
 {
@@ -42,6 +43,7 @@ fn check_disclosed(request: Amendment, order: Order) -> Result<(), Refusal>
     }
 }
 
+// What the change will do to the record that was found.
 fn plan_for(request: AmendRequest, found: Found) -> Result<AmendPlan, Refusal>
     ensures { result ≡ plan_for request found }
 {
@@ -55,7 +57,7 @@ fn plan_for(request: AmendRequest, found: Found) -> Result<AmendPlan, Refusal>
     })
 }
 
-// What the form will do, or why it is refused, by rising number.
+// What the change will do, or the first refusal that applies, by rising number.
 fn change_answer<B: Book>(
     book: &B,
     tape: &Tape,
@@ -78,15 +80,17 @@ fn change_answer<B: Book>(
 }
 
 impl OpenDay {
-    // A standing order is changed.
+    /// A change of a standing order: answers whether it was accepted, or why not (rules 13).
     pub fn change<B: Book>(
         self,
         book: &mut B,
         tape: &mut Tape,
         form: ChangeForm,
     ) -> (OpenDay, Result<(), Refusal>)
-        ensures answer { result.1 ≡ answer (ChangeRow form) (state (B.queues book.old) tape.old (Open self)) }
-        ensures state { state (B.queues book.new) tape.new (Open result.0) ≡ step (ChangeRow form) (state (B.queues book.old) tape.old (Open self)) }
+        ensures answer { result.1
+            ≡ answer (ChangeRow form) (state (B.queues book.old) tape.old (Open self)) }
+        ensures state { state (B.queues book.new) tape.new (Open result.0)
+            ≡ step (ChangeRow form) (state (B.queues book.old) tape.old (Open self)) }
     {
         let OpenDay { day, mut session } = self;
         match change_answer(book, tape, session, form) {

@@ -16,7 +16,8 @@ use tapes::tape::Tape;
 use validation::removals::validate_opening;
 
 impl OpenDay {
-    // The Day orders and stops are removed and the day is closed, or it is handed back.
+    /// Closes the day: every order and stop of validity Day is removed. A refused closing answers
+    /// the open day again, and why (rules 15).
     pub fn close<B: Book>(
         self,
         book: &mut B,
@@ -33,7 +34,7 @@ impl OpenDay {
     }
 }
 
-// The day that a form opens after a day, or why it is refused.
+// The day that the form names, or the first refusal that applies, by rising number.
 fn opening_result<B: Book>(
     book: &B,
     tape: &Tape,
@@ -52,7 +53,7 @@ fn opening_result<B: Book>(
 }
 
 impl ClosedDay {
-    // A later day is opened, or the closed one is handed back.
+    /// Opens a later day. A refused opening answers the closed day again, and why (rules 15).
     pub fn open<B: Book>(
         self,
         book: &B,

@@ -1,26 +1,29 @@
-// Open and closed days: neither can be lost, and neither can be used twice.
-// Two types of the same fields, so that a step of an open day is not built on a closed one. Book and tape are lent to each
-// step side by side, not held by the day: the form that the owner named, here and in the calls above.
+// Open and closed days. A day is neither Copy nor Clone: a step uses it up, and answers the day that
+// it leaves. They are two types of the same fields, so that no step of an open day is taken on a
+// closed one.
+// Book and tape are arguments of each step, and no part of the day.
 use matching::session::Session;
 
+/// An open day: its number, and the session (rules 1).
 pub struct OpenDay {
     pub(crate) day: u16,
     pub(crate) session: Session,
 }
 
+/// A closed day: its number, and the session, which outlives closing (rules 15).
 pub struct ClosedDay {
     pub(crate) day: u16,
     pub(crate) session: Session,
 }
 
-// A day of which only the run knows whether it is open.
+/// A day that may be open or closed, as the program runs.
 pub enum Day {
     Open(OpenDay),
     Closed(ClosedDay),
 }
 
 impl Day {
-    // The end of a run takes the day apart.
+    /// Ends the day, which no further step is taken on.
     pub fn end(self) {
         match self {
             Day::Open(OpenDay { day: _, session: _ }) => {}

@@ -18,7 +18,7 @@ use matching::session::Session;
 use tapes::tape::Tape;
 use validation::entries::validate_entry;
 
-// What the form asks for, or why it is refused, by rising number.
+// What the form asks for, or the first refusal that applies, by rising number.
 fn entry_answer<B: Book>(
     book: &B,
     tape: &Tape,
@@ -39,17 +39,18 @@ fn entry_answer<B: Book>(
     Ok(new_order)
 }
 
-// Every step of an open day matches on what was told in this way: each has its own form, and does its own.
 impl OpenDay {
-    // An order or stop is entered.
+    /// An entry of an order or stop: answers whether it was accepted, or why not (rules 8).
     pub fn enter<B: Book>(
         self,
         book: &mut B,
         tape: &mut Tape,
         form: EntryForm,
     ) -> (OpenDay, Result<(), Refusal>)
-        ensures answer { result.1 ≡ answer (Entry form) (state (B.queues book.old) tape.old (Open self)) }
-        ensures state { state (B.queues book.new) tape.new (Open result.0) ≡ step (Entry form) (state (B.queues book.old) tape.old (Open self)) }
+        ensures answer { result.1
+            ≡ answer (Entry form) (state (B.queues book.old) tape.old (Open self)) }
+        ensures state { state (B.queues book.new) tape.new (Open result.0)
+            ≡ step (Entry form) (state (B.queues book.old) tape.old (Open self)) }
     {
         let OpenDay { day, mut session } = self;
         match entry_answer(book, tape, session, form) {

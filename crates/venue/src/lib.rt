@@ -1,4 +1,4 @@
-// A venue: its days and the steps that members take on it, above any book.
+// A venue: its days, and the six steps that firms take on it, on any book.
 #![tactic(auto)]
 
 pub mod changing;

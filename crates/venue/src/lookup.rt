@@ -1,4 +1,4 @@
-// Which order or stop a firm names, and whether a client number is held.
+// Which order or stop a firm names, and whether a client number is taken.
 ghost use Rattle.std.specs.Prelude.{◌≡◌};
 ghost use Rattle.venue.specs.Known.{claims, claimed_in, client_claimed, client_free, firms_record, standing_in};
 
@@ -9,7 +9,7 @@ use forms::refusal::Refusal;
 use orders::order::Order;
 use orders::side::Side;
 
-// A record and where it lies.
+/// A record, with its queue and its place there, from 0.
 #[derive(Clone, Copy)]
 pub struct Found {
     pub queue: Queue,
@@ -17,7 +17,8 @@ pub struct Found {
     pub record: Record,
 }
 
-// A firm's client number, which no other record of the firm may hold; the order that it is for does not count.
+/// A firm's claim to a client number: no other record of the firm may have it. `except` is the
+/// number of the order that a change gives it to.
 #[derive(Clone, Copy)]
 pub struct ClientNumberClaim {
     pub firm: u16,
@@ -26,6 +27,7 @@ pub struct ClientNumberClaim {
 }
 
 impl ClientNumberClaim {
+    // Whether the order is the firm's, has the client number and is not the excepted one.
     fn is_claimed_by(self, order: Order) -> bool
         ensures { result ≡ claims self.firm self.client self.except order }
     {
@@ -34,7 +36,7 @@ impl ClientNumberClaim {
             && self.except.is_none_or(|own| own != order.number)
     }
 
-    // Whether another record of a queue holds the client number.
+    // Whether another record of a queue has the client number. The book may know that none has.
     fn is_claimed_in<B: Book>(self, book: &B, queue: Queue) -> bool
         ensures { result ≡ claimed_in self.firm self.client self.except queue (B.queues book.now) }
     {
@@ -42,7 +44,7 @@ impl ClientNumberClaim {
             && orders_in(book, queue).any(|order| self.is_claimed_by(order))
     }
 
-    // The four queues by name and in their order, as the definition has them.
+    // Whether another record of the book has the client number.
     fn is_claimed<B: Book>(self, book: &B) -> bool
         ensures { result ≡ client_claimed self.firm self.client self.except (B.queues book.now) }
     {
@@ -52,7 +54,7 @@ impl ClientNumberClaim {
             || self.is_claimed_in(book, Queue::Stops(Side::Sell))
     }
 
-    // Whether the client number is free.
+    /// Whether the client number is free, or `ClientNumberTaken` (rules 8, 13).
     pub fn check<B: Book>(self, book: &B) -> Result<(), Refusal>
         ensures { result ≡ client_free self.firm self.client self.except (B.queues book.now) }
     {
@@ -64,7 +66,8 @@ impl ClientNumberClaim {
     }
 }
 
-// The firm's order or stop of a number.
+/// The firm's order or stop of a number, or `UnknownOrder`, also where it is another firm's
+/// (rules 13, 14).
 pub fn firms_record<B: Book>(book: &B, firm: u16, number: u32) -> Result<Found, Refusal>
     ensures { result ≡ firms_record firm number (B.queues book.now) }
 {
@@ -76,7 +79,7 @@ pub fn firms_record<B: Book>(book: &B, firm: u16, number: u32) -> Result<Found, 
     Ok(Found { queue, at, record })
 }
 
-// An order that stands; a stop is not changed.
+/// The order of a record that stands; `ChangeOfStop` for a stop (rules 13).
 pub fn standing_in(record: Record) -> Result<Order, Refusal>
     ensures { result ≡ standing_in «record» }
 {

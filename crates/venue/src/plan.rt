@@ -1,7 +1,8 @@
-// What an accepted change will do.
+// The plan of a change.
 use matching::amendment::Amendment;
 use orders::order::Order;
 
+/// What an accepted change will do: the change, and the standing order with its place (rules 13).
 #[derive(Clone, Copy)]
 pub struct AmendPlan {
     pub change: Amendment,

@@ -38,15 +38,18 @@ fn mass_cancel_answer<B: Book>(
 }
 
 impl OpenDay {
-    // The firm's order or stop of a number is removed.
+    /// A cancel of the firm's order or stop of a number: answers whether it was accepted, or why not
+    /// (rules 14).
     pub fn cancel<B: Book>(
         self,
         book: &mut B,
         tape: &mut Tape,
         form: CancelForm,
     ) -> (OpenDay, Result<(), Refusal>)
-        ensures answer { result.1 ≡ answer (Cancel form) (state (B.queues book.old) tape.old (Open self)) }
-        ensures state { state (B.queues book.new) tape.new (Open result.0) ≡ step (Cancel form) (state (B.queues book.old) tape.old (Open self)) }
+        ensures answer { result.1
+            ≡ answer (Cancel form) (state (B.queues book.old) tape.old (Open self)) }
+        ensures state { state (B.queues book.new) tape.new (Open result.0)
+            ≡ step (Cancel form) (state (B.queues book.old) tape.old (Open self)) }
     {
         match cancel_answer(book, tape, form) {
             Ok(found) => {
@@ -64,15 +67,18 @@ impl OpenDay {
         }
     }
 
-    // All of the firm's orders and stops that match every filled cell are removed.
+    /// A mass cancel of the firm's orders and stops that match every filled cell. It is accepted where
+    /// nothing matches too (rules 14).
     pub fn mass_cancel<B: Book>(
         self,
         book: &mut B,
         tape: &mut Tape,
         form: MassCancelForm,
     ) -> (OpenDay, Result<(), Refusal>)
-        ensures answer { result.1 ≡ answer (MassCancel form) (state (B.queues book.old) tape.old (Open self)) }
-        ensures state { state (B.queues book.new) tape.new (Open result.0) ≡ step (MassCancel form) (state (B.queues book.old) tape.old (Open self)) }
+        ensures answer { result.1
+            ≡ answer (MassCancel form) (state (B.queues book.old) tape.old (Open self)) }
+        ensures state { state (B.queues book.new) tape.new (Open result.0)
+            ≡ step (MassCancel form) (state (B.queues book.old) tape.old (Open self)) }
     {
         match mass_cancel_answer(book, tape, form) {
             Ok(filter) => {

@@ -1,4 +1,4 @@
-// Whether the tape and the stamps suffice for a step.
+// Room: whether the tape and the stamps suffice for a step.
 ghost use Rattle.std.specs.Prelude.{◌≡◌, ◌*◌, ◌≤◌};
 ghost use Rattle.books.specs.Model.{count};
 ghost use Rattle.venue.specs.Rooms.{needed, lines_free, stamps_free};
@@ -10,7 +10,10 @@ use matching::session::Session;
 use orders::side::Side;
 use tapes::tape::Tape;
 
-// How many records a queue holds. That it is small is said here for the sum of four.
+// The lines that a step may write, and the stamps that it may draw, for each record and one more.
+const ROOM_PER_RECORD: usize = 20;
+
+// How many records a queue holds: few enough for the sum of four.
 fn count<B: Book>(book: &B, queue: Queue) -> usize
     ensures answer { result ≡ count queue (B.queues book.now) }
     ensures small { result ≤ 1000000 }
@@ -18,7 +21,7 @@ fn count<B: Book>(book: &B, queue: Queue) -> usize
     book.size(queue).0
 }
 
-// Twenty lines or stamps for each record and one more. The four queues by name, as the definition has them.
+// The lines or stamps that a step may need.
 fn needed<B: Book>(book: &B) -> usize
     ensures { result ≡ needed (B.queues book.now) }
 {
@@ -26,10 +29,10 @@ fn needed<B: Book>(book: &B) -> usize
     let offers = count(book, Queue::Orders(Side::Sell));
     let buy_stops = count(book, Queue::Stops(Side::Buy));
     let sell_stops = count(book, Queue::Stops(Side::Sell));
-    20 * (bids + offers + buy_stops + sell_stops + 1)
+    ROOM_PER_RECORD * (bids + offers + buy_stops + sell_stops + 1)
 }
 
-// Two tests of one line each: a shared one would be given the count and the refusal.
+/// Whether the tape has the free lines that a step may need, or `TapeFull` (rules 7).
 pub fn lines_free<B: Book>(book: &B, tape: &Tape) -> Result<(), Refusal>
     ensures { result ≡ lines_free (B.queues book.now) tape.now }
 {
@@ -40,6 +43,7 @@ pub fn lines_free<B: Book>(book: &B, tape: &Tape) -> Result<(), Refusal>
     }
 }
 
+/// Whether as many stamps are undrawn as an entry or a change may need, or `NoStamps` (rules 7).
 pub fn stamps_free<B: Book>(book: &B, session: Session) -> Result<(), Refusal>
     ensures { result ≡ stamps_free (B.queues book.now) session }
 {

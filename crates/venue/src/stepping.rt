@@ -1,5 +1,4 @@
-// One step of a day of which only the run knows whether it is open.
-// By a match on the form, not by closures: a form is data that a member sends.
+// One step of a day that may be open or closed, by its form.
 ghost use Rattle.std.specs.Prelude.{◌≡◌};
 ghost use Rattle.validation.specs.Removals.{validate_opening};
 ghost use Rattle.venue.specs.Days.{state, wrong_day, closed_refusal, answer, step};
@@ -20,8 +19,10 @@ fn step_open<B: Book>(
     tape: &mut Tape,
     form: Form,
 ) -> (Day, Result<(), Refusal>)
-    ensures answer { result.1 ≡ answer form (state (B.queues book.old) tape.old (Open «open»)) }
-    ensures state { state (B.queues book.new) tape.new result.0 ≡ step form (state (B.queues book.old) tape.old (Open «open»)) }
+    ensures answer { result.1
+        ≡ answer form (state (B.queues book.old) tape.old (Open «open»)) }
+    ensures state { state (B.queues book.new) tape.new result.0
+        ≡ step form (state (B.queues book.old) tape.old (Open «open»)) }
 {
     match form {
         Form::Entry(form) => {
@@ -48,7 +49,7 @@ fn step_open<B: Book>(
     }
 }
 
-// Cells are looked at before the day.
+// An opening on an open day. Cells are checked before the day.
 fn opening_on_open(form: OpeningForm) -> Result<(), Refusal>
     ensures { result ≡ wrong_day (validate_opening form) }
 {
@@ -56,6 +57,7 @@ fn opening_on_open(form: OpeningForm) -> Result<(), Refusal>
     Err(Refusal::WrongDay)
 }
 
+// Any other form on a closed day. Cells are checked before the day.
 fn refused_closed(form: Form) -> Result<(), Refusal>
     ensures { result ≡ closed_refusal form }
 {
@@ -83,8 +85,10 @@ fn step_closed<B: Book>(
     tape: &Tape,
     form: Form,
 ) -> (Day, Result<(), Refusal>)
-    ensures answer { result.1 ≡ answer form (state (B.queues book.now) tape.now (Closed closed)) }
-    ensures state { state (B.queues book.now) tape.now result.0 ≡ step form (state (B.queues book.now) tape.now (Closed closed)) }
+    ensures answer { result.1
+        ≡ answer form (state (B.queues book.now) tape.now (Closed closed)) }
+    ensures state { state (B.queues book.now) tape.now result.0
+        ≡ step form (state (B.queues book.now) tape.now (Closed closed)) }
 {
     match form {
         Form::Opening(form) => match closed.open(book, tape, form) {
@@ -97,7 +101,8 @@ fn step_closed<B: Book>(
 }
 
 impl Day {
-    // The step that a form asks for.
+    /// Takes the step that a form asks for. Answers the day that it leaves, and whether it was
+    /// accepted, or why not; a refused step leaves book, tape and day as they were (rules 7).
     pub fn step<B: Book>(
         self,
         book: &mut B,
@@ -105,7 +110,8 @@ impl Day {
         form: Form,
     ) -> (Day, Result<(), Refusal>)
         ensures answer { result.1 ≡ answer form (state (B.queues book.old) tape.old self) }
-        ensures state { state (B.queues book.new) tape.new result.0 ≡ step form (state (B.queues book.old) tape.old self) }
+        ensures state { state (B.queues book.new) tape.new result.0
+            ≡ step form (state (B.queues book.old) tape.old self) }
     {
         match self {
             Day::Open(open) => step_open(open, book, tape, form),
