@@ -1,6 +1,6 @@
 -- Every lot is accounted for, every number is had once at most, and each order knows its quantity.
-use Rattle.std.proofs.Common.{◌≡◌, ℕ, ◌+◌, ◌-◌, ◌<◌, ◌≤◌, Bool, true, false, cond, eqb, ◌⊎◌, List, ◌++◌, Some, None, sym, refl, ap, ◌∙◌, subst, inl, inr, ⊎_elim, arith}
-use Rattle.std.proofs.lemmas.Bool.{cond_both, cond-true, eqb-true, eqb-false, eq-eqb, ne_eqb, cases_lt}
+use Rattle.std.proofs.Common.{◌≡◌, ℕ, ◌+◌, ◌-◌, ◌<◌, ◌≤◌, Bool, true, false, cond, eqb, ◌⊎◌, List, ◌++◌, None, sym, refl, ap, ◌∙◌, subst, inl, inr, ⊎_elim, arith}
+use Rattle.std.proofs.lemmas.Bool.{cond-true, eqb-true, eqb-false, eq-eqb, ne_eqb, cases_lt}
 use Rattle.orders.specs.declared.order.Order.{Order}
 use Rattle.orders.specs.declared.row.OrderRow.{OrderRow}
 use Rattle.orders.specs.Lots.{order_reduced, order_refilled}
@@ -9,6 +9,7 @@ use Rattle.books.specs.Model.{Queues}
 use Rattle.tapes.specs.declared.line.Line.{Line}
 use Rattle.matching.specs.Model.{MatchState, Event, accepts, accepts_stop, accepts_and_cancels, accepts_unmatched, cancels_incoming, trades, rests, triggers, cancels_resting, amends, requeues, RestingOutcome, filled, refilled, reduced, outcome, incoming_left, trade_lots, apply}
 use Rattle.matching.specs.Running.{total}
+use Rattle.matching.proofs.OutcomeCases.{outcome_cases, incoming_left_cases}
 use Rattle.laws.specs.Tally.{Status, stands, waits, incoming}
 use Rattle.laws.specs.Accounts.{counting, quantity_of, traded_lots, cancelled_lots, open_of}
 use Rattle.laws.proofs.ConsistentQueues.{ConsistentQueues}
@@ -55,23 +56,18 @@ born f k n h = ⊎_elim (λ (l : n < f.session.next_stamp). l) (λ (l : f.sessio
 -- open lots after a trade
 
 pub held_open : (n lots : ℕ) (o : Order) → lots ≤ o.open_lots → of_incoming (open_of n) (incoming_left lots o) + counting n o.number lots ≡ open_of n o
-held_open n lots o h = cond_both (eqb o.open_lots lots) None (Some (order_refilled o.turn lots o)) (λ m. of_incoming (open_of n) m + counting n o.number lots ≡ open_of n o)
-    (λ e. let z = eqb-true o.open_lots lots e in by_number o.number n (λ b. 0 + cond b lots 0 ≡ cond b o.open_lots 0) (λ _. omega arith) (λ _. omega arith))
-    (λ e. let z = eqb-false o.open_lots lots e in
-    let k : (order_refilled o.turn lots o).open_lots ≡ o.open_lots - lots = ap (λ (r : OrderRow). r.open_lots) (refilled_row o.turn lots o (omega arith)) in
+held_open n lots o h = incoming_left_cases lots o (λ m. of_incoming (open_of n) m + counting n o.number lots ≡ open_of n o) h
+    (λ e. by_number o.number n (λ b. 0 + cond b lots 0 ≡ cond b o.open_lots 0) (λ _. omega arith) (λ _. omega arith))
+    (λ more. let k : (order_refilled o.turn lots o).open_lots ≡ o.open_lots - lots = ap (λ (r : OrderRow). r.open_lots) (refilled_row o.turn lots o more) in
     by_number o.number n (λ b. cond b (order_refilled o.turn lots o).open_lots 0 + cond b lots 0 ≡ cond b o.open_lots 0) (λ _. omega arith) (λ _. omega arith))
 
 pub outcome_open : (n lots stamp : ℕ) (r : Order) → lots ≤ r.shown → of_outcome (open_of n) (outcome lots r) lots stamp r + counting n r.number lots ≡ open_of n r
-outcome_open n lots stamp r h =
-    let S : RestingOutcome → Type 0 = λ k. of_outcome (open_of n) k lots stamp r + counting n r.number lots ≡ open_of n r in
-    cond_both (eqb r.open_lots lots) filled (cond (eqb r.shown lots) refilled reduced) S
-    (λ e. let z = eqb-true r.open_lots lots e in by_number r.number n (λ b. 0 + cond b lots 0 ≡ cond b r.open_lots 0) (λ _. omega arith) (λ _. omega arith))
-    (λ e. let z = eqb-false r.open_lots lots e in cond_both (eqb r.shown lots) refilled reduced S
-    (λ _. let k : (order_refilled stamp lots r).open_lots ≡ r.open_lots - lots = ap (λ (r : OrderRow). r.open_lots) (refilled_row stamp lots r (omega arith)) in
+outcome_open n lots stamp r h = outcome_cases lots r (λ k. of_outcome (open_of n) k lots stamp r + counting n r.number lots ≡ open_of n r) h
+    (λ e. by_number r.number n (λ b. 0 + cond b lots 0 ≡ cond b r.open_lots 0) (λ _. omega arith) (λ _. omega arith))
+    (λ _ more. let k : (order_refilled stamp lots r).open_lots ≡ r.open_lots - lots = ap (λ (r : OrderRow). r.open_lots) (refilled_row stamp lots r more) in
     by_number r.number n (λ b. cond b (order_refilled stamp lots r).open_lots 0 + cond b lots 0 ≡ cond b r.open_lots 0) (λ _. omega arith) (λ _. omega arith))
-    (λ d. let y = eqb-false r.shown lots d in
-    let k : (order_reduced lots r).open_lots ≡ r.open_lots - lots = ap (λ (r : OrderRow). r.open_lots) (reduced_row lots r (omega arith)) in
-    by_number r.number n (λ b. cond b (order_reduced lots r).open_lots 0 + cond b lots 0 ≡ cond b r.open_lots 0) (λ _. omega arith) (λ _. omega arith)))
+    (λ less. let k : (order_reduced lots r).open_lots ≡ r.open_lots - lots = ap (λ (r : OrderRow). r.open_lots) (reduced_row lots r less) in
+    by_number r.number n (λ b. cond b (order_reduced lots r).open_lots 0 + cond b lots 0 ≡ cond b r.open_lots 0) (λ _. omega arith) (λ _. omega arith))
 
 -- a new number, and a new quantity under an old one
 
@@ -149,8 +145,8 @@ unborn_apply (requeues s i o) f h k n l =
     rw (ne_eqb o.number n (λ e. omega (arith, h.0.changes.number, e))) (k.unborn n (omega arith))
 
 -- numbers after a trade are the numbers before
-one_held : (n lots : ℕ) (o : Order) → of_incoming (one_of n incoming) (incoming_left lots o) ≤ one_of n incoming o
-one_held n lots o = cond_both (eqb o.open_lots lots) None (Some (order_refilled o.turn lots o)) (λ m. of_incoming (one_of n incoming) m ≤ one_of n incoming o) (λ _. omega arith) (λ _. omega arith)
+one_held : (n lots : ℕ) (o : Order) → lots ≤ o.open_lots → of_incoming (one_of n incoming) (incoming_left lots o) ≤ one_of n incoming o
+one_held n lots o h = incoming_left_cases lots o (λ m. of_incoming (one_of n incoming) m ≤ one_of n incoming o) h (λ _. omega arith) (λ _. omega arith)
 
 one_outcome : (n lots stamp : ℕ) (k : RestingOutcome) (r : Order) → of_outcome (one_of n stands) k lots stamp r ≤ one_of n stands r
 one_outcome n lots stamp filled r = omega arith
@@ -169,7 +165,7 @@ single_coming (accepts_stop x) f h k n = single_new x.order.number n f h.arrives
 single_coming (accepts_and_cancels c o) f h k n = inl (omega arith)
 single_coming (accepts_unmatched m lots) f h k n = inl (omega arith)
 single_coming (cancels_incoming c o) f h k n = inl (omega arith)
-single_coming (trades o r) f h k n = inl (omega (arith, one_held n (trade_lots o r) o, one_outcome n (trade_lots o r) f.session.next_stamp (outcome (trade_lots o r) r) r))
+single_coming (trades o r) f h k n = inl (omega (arith, one_held n (trade_lots o r) o (omega arith), one_outcome n (trade_lots o r) f.session.next_stamp (outcome (trade_lots o r) r) r))
 single_coming (rests o) f h k n = inl (omega arith)
 single_coming (triggers s x) f h k n = inl (omega arith)
 single_coming (cancels_resting c m i r) f h k n = inl (omega arith)
@@ -217,18 +213,13 @@ module _ (e : Event) (f : MatchState) (fit : MayApply e f) (k : Counts f) where
   rest_other m h = omega (arith, taken_up (one_of m) e f fit, k.single m)
 
 held_known : (l : List Line) (lots : ℕ) (o : Order) → lots ≤ o.open_lots → unknown l incoming o ≡ 0 → of_incoming (unknown l incoming) (incoming_left lots o) ≡ 0
-held_known l lots o h e = cond_both (eqb o.open_lots lots) None (Some (order_refilled o.turn lots o)) (λ m. of_incoming (unknown l incoming) m ≡ 0) (λ _. refl)
-    (λ d. let z = eqb-false o.open_lots lots d in at_known l incoming (order_refilled o.turn lots o)
-    (known_at l incoming o e ∙ sym (ap (λ (r : OrderRow). r.quantity) (refilled_row o.turn lots o (omega arith)))))
+held_known l lots o h e = incoming_left_cases lots o (λ m. of_incoming (unknown l incoming) m ≡ 0) h (λ _. refl)
+    (λ more. at_known l incoming (order_refilled o.turn lots o) (known_at l incoming o e ∙ sym (ap (λ (r : OrderRow). r.quantity) (refilled_row o.turn lots o more))))
 
 outcome_known : (l : List Line) (lots stamp : ℕ) (r : Order) → lots ≤ r.shown → unknown l stands r ≡ 0 → of_outcome (unknown l stands) (outcome lots r) lots stamp r ≡ 0
-outcome_known l lots stamp r h e =
-    let S : RestingOutcome → Type 0 = λ k. of_outcome (unknown l stands) k lots stamp r ≡ 0 in
-    let w = known_at l stands r e in
-    cond_both (eqb r.open_lots lots) filled (cond (eqb r.shown lots) refilled reduced) S (λ _. refl)
-    (λ d. let z = eqb-false r.open_lots lots d in cond_both (eqb r.shown lots) refilled reduced S
-    (λ _. at_known l stands (order_refilled stamp lots r) (w ∙ sym (ap (λ (r : OrderRow). r.quantity) (refilled_row stamp lots r (omega arith)))))
-    (λ c. let y = eqb-false r.shown lots c in at_known l stands (order_reduced lots r) (w ∙ sym (ap (λ (r : OrderRow). r.quantity) (reduced_row lots r (omega arith))))))
+outcome_known l lots stamp r h e = outcome_cases lots r (λ k. of_outcome (unknown l stands) k lots stamp r ≡ 0) h (λ _. refl)
+    (λ _ more. at_known l stands (order_refilled stamp lots r) (known_at l stands r e ∙ sym (ap (λ (r : OrderRow). r.quantity) (refilled_row stamp lots r more))))
+    (λ less. at_known l stands (order_reduced lots r) (known_at l stands r e ∙ sym (ap (λ (r : OrderRow). r.quantity) (reduced_row lots r less))))
 
 known_apply : (e : Event) (f : MatchState) → MayApply e f → Counts f → measure_resting (unknown (event_lines e ++ tape f)) e f + measure_come e f (unknown (event_lines e ++ tape f)) ≡ 0
 known_apply (accepts o) f h k =

@@ -1,7 +1,7 @@
 -- When an event may happen, what goes with it and what comes, and that it leaves good queues.
-use Rattle.std.proofs.Common.{◌≡◌, ℕ, suc, ◌+◌, ◌<◌, ◌≤◌, true, eqb, List, length, Some, None, Option, sym, refl, ap, ◌∙◌, subst, arith, Ok}
+use Rattle.std.proofs.Common.{◌≡◌, ℕ, suc, ◌+◌, ◌<◌, ◌≤◌, true, List, length, Some, None, Option, sym, refl, ap, ◌∙◌, subst, arith, Ok}
 use Rattle.std.specs.List.{remove, slice_get}
-use Rattle.std.proofs.lemmas.Bool.{cond_both, cond-true, eqb-false, eq-eqb}
+use Rattle.std.proofs.lemmas.Bool.{cond-true, eq-eqb}
 use Rattle.std.proofs.lemmas.Bool.Decides.{nat_tests}
 use Rattle.orders.specs.declared.side.Side.{Side}
 use Rattle.orders.specs.declared.order.Order.{Order}
@@ -17,6 +17,7 @@ use Rattle.books.specs.declared.queue.Record.{Record}
 use Rattle.books.specs.declared.queue.Record.TheVariants.{Standing, Waiting}
 use Rattle.books.specs.Model.{Queues, at, rank_of, count, capacity, order_of_record, put_answer, after_put, inserted, taken, rewritten, rewrite_allowed, record_set, PutAnswer}
 use Rattle.matching.specs.Model.{MatchState, Event, accepts, accepts_stop, accepts_and_cancels, accepts_unmatched, cancels_incoming, trades, rests, triggers, cancels_resting, amends, requeues, RestingOutcome, filled, refilled, reduced, outcome, put_back, after_trade, incoming_left, trade_lots, apply}
+use Rattle.matching.proofs.OutcomeCases.{incoming_left_cases}
 use Rattle.laws.specs.Tally.{Status, stands, waits, incoming}
 use Rattle.laws.proofs.SortedLists.{length_taken, all_nth}
 use Rattle.laws.proofs.RowsInBounds.{Shows, refilled_shows}
@@ -299,8 +300,7 @@ queues_apply (amends i o) f h g s l =
 queues_apply (requeues z i o) f h g s l = queues_cut z i h.0.was f.queues h.0.there g
 
 held_ready : (lots : ℕ) (o : Order) → lots ≤ o.open_lots → Low o.price → Ready (incoming_left lots o)
-held_ready lots o n h = cond_both (eqb o.open_lots lots) None (Some (order_refilled o.turn lots o)) Ready (λ _. tt)
-    (λ e. let z = eqb-false o.open_lots lots e in (h, refilled_shows o.turn lots o (omega arith)))
+held_ready lots o n h = incoming_left_cases lots o Ready n (λ _. tt) (λ more. (h, refilled_shows o.turn lots o more))
 
 pub ready_apply : (e : Event) (f : MatchState) → MayApply e f → ConsistentQueues f.queues → Ready f.incoming → Ready (apply e f).incoming
 ready_apply (accepts o) f h g l = (h.low, h.shows)

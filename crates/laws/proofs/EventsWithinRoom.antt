@@ -1,8 +1,8 @@
 -- Each event is within room: its lines and stamps are had in full, what it puts is taken, and its orders keep their bounds.
-use Rattle.std.proofs.Common.{◌≡◌, ℕ, zero, suc, ◌-◌, ◌≤◌, Bool, true, false, cond, eqb, ltb, List, [], ◌∷◌, Some, None, Option, sym, refl, ap, ◌∙◌, subst, arith, Ok, Err}
+use Rattle.std.proofs.Common.{◌≡◌, ℕ, zero, suc, ◌-◌, ◌≤◌, Bool, true, false, cond, ltb, List, [], ◌∷◌, Some, None, Option, sym, refl, ap, ◌∙◌, subst, arith, Ok, Err}
 use Rattle.std.specs.List.{slice_get}
 use Rattle.std.specs.Option.{option_map}
-use Rattle.std.proofs.lemmas.Bool.{cond_both, eqb-false}
+use Rattle.std.proofs.lemmas.Bool.{cond_both}
 use Rattle.orders.specs.declared.side.Side.{Side}
 use Rattle.orders.specs.declared.side.Side.TheVariants.{Buy, Sell}
 use Rattle.orders.specs.declared.order.Order.{Order}
@@ -22,6 +22,7 @@ use Rattle.matching.specs.declared.new_order.NewOrder.{NewOrder}
 use Rattle.matching.specs.Model.{MatchState, Event, accepts, accepts_stop, accepts_and_cancels, accepts_unmatched, cancels_incoming, trades, rests, triggers, cancels_resting, amends, requeues, RestingOutcome, filled, refilled, reduced, outcome, trade_lots, apply}
 use Rattle.matching.specs.Running.{next_event, next_given, first_order, first_stop, rests_or_cancels, leftover, incoming_event, if_ripe, lower_turn, trigger_event, run_events, weight, run_to_rest}
 use Rattle.matching.specs.Entering.{entered_order, falls_short, accepts_or_cancels, entered_stop, accepts_stop_or_cancels, market_arrival, arrival_as, arrival}
+use Rattle.matching.proofs.OutcomeCases.{outcome_cases}
 use Rattle.matching.proofs.PartsFall.{reduced_fits, refilled_fits}
 use Rattle.matching.proofs.WeightFalls.{run_events_next, run_events_zero, weight_falls}
 use Rattle.laws.specs.Tally.{incoming}
@@ -102,11 +103,9 @@ well_next f s = go f.incoming refl
 -- bounds
 
 outcome_within : (lots stamp : ℕ) (r : Order) → lots ≤ r.shown → outcome_in_bounds (outcome lots r) lots stamp r
-outcome_within lots stamp r h =
-    cond_both (eqb r.open_lots lots) filled (cond (eqb r.shown lots) refilled reduced) (λ k. outcome_in_bounds k lots stamp r) (λ _. tt)
-    (λ e. let z = eqb-false r.open_lots lots e in cond_both (eqb r.shown lots) refilled reduced (λ k. outcome_in_bounds k lots stamp r)
-    (λ _. in_bounds_from (with_lots stamp (r.open_lots - lots) (showing r.disclosed (r.open_lots - lots)) r) (refilled_fits stamp lots r (omega arith)))
-    (λ d. let y = eqb-false r.shown lots d in in_bounds_from (with_lots r.turn (r.open_lots - lots) (r.shown - lots) r) (reduced_fits lots r (omega arith))))
+outcome_within lots stamp r h = outcome_cases lots r (λ k. outcome_in_bounds k lots stamp r) h (λ _. tt)
+    (λ _ more. in_bounds_from (with_lots stamp (r.open_lots - lots) (showing r.disclosed (r.open_lots - lots)) r) (refilled_fits stamp lots r more))
+    (λ less. in_bounds_from (with_lots r.turn (r.open_lots - lots) (r.shown - lots) r) (reduced_fits lots r less))
 
 pub bounds_kept : (e : Event) (f : MatchState) → EventInBounds e f
 bounds_kept (accepts o) f = tt

@@ -1,25 +1,25 @@
 -- The tally goes with the match state, event by event: every sum over its accounts is the sum over the orders of the match state.
-use Rattle.std.proofs.Common.{◌≡◌, ℕ, ◌+◌, ◌-◌, ◌<◌, ◌≤◌, Bool, true, false, cond, ◌||◌, eqb, List, [], ◌∷◌, Some, None, Option, sym, refl, ap, ◌∙◌, subst, arith}
-use Rattle.std.proofs.lemmas.Bool.{cond_both, cond-true, cond-false, eqb-true, eqb-false, eq-eqb, ne_eqb, or_from, or_left, or_right}
+use Rattle.std.proofs.Common.{◌≡◌, ℕ, ◌+◌, ◌-◌, ◌≤◌, Bool, true, false, cond, ◌||◌, eqb, List, [], ◌∷◌, Some, None, Option, sym, refl, ap, ◌∙◌, subst, arith}
+use Rattle.std.proofs.lemmas.Bool.{cond-true, cond-false, eq-eqb, ne_eqb, or_from, or_left, or_right}
 use Rattle.orders.specs.declared.side.Side.{Side}
 use Rattle.orders.specs.declared.order.Order.{Order}
 use Rattle.orders.specs.declared.order.Stop.{Stop}
 use Rattle.orders.specs.declared.row.OrderRow.{OrderRow}
 use Rattle.orders.specs.Rows.{row_of}
-use Rattle.orders.specs.Lots.{order_refilled}
 use Rattle.books.specs.declared.queue.Queue.{Queue}
 use Rattle.books.specs.declared.queue.Record.{Record}
 use Rattle.books.specs.Model.{Queues, order_of_record}
 use Rattle.tapes.specs.declared.cause.Cause.{Cause}
-use Rattle.matching.specs.Model.{MatchState, Event, cancels_incoming, trades, rests, triggers, cancels_resting, RestingOutcome, filled, refilled, reduced, outcome, incoming_left, trade_lots, apply}
+use Rattle.matching.specs.Model.{MatchState, Event, cancels_incoming, trades, rests, triggers, cancels_resting, outcome, incoming_left, trade_lots, apply}
 use Rattle.matching.specs.Running.{total}
+use Rattle.matching.proofs.OutcomeCases.{outcome_cases, incoming_left_cases}
 use Rattle.laws.specs.Tally.{Status, stands, waits, incoming, Account, Tally, account, account_if, adjust, only, numbered, row_with, lots_off, shown_ran_out, refilled_if, take_off, rested, incoming_rested, triggered_account, note_trigger, note_trade, note_cancel}
 use Rattle.laws.proofs.SumsOverOrders.{Measure, of_incoming, over, everywhere, over_plus, over_agree, one_of, total_none}
 use Rattle.laws.proofs.RowsInBounds.{Shows, refilled_row, reduced_row}
 use Rattle.laws.proofs.EventsApply.{MayApply, of_outcome, measure_gone, measure_come, untouched_queues, measure_resting, taken_up, put_down, one_itself, Ready, status}
 use Rattle.laws.specs.WithinRoom.{outcome_stamps}
 use Rattle.laws.proofs.LinesAndStamps.{Roomy, stamp_is}
-use Rattle.laws.proofs.AccountsBalance.{by_number, rest_other}
+use Rattle.laws.proofs.AccountsBalance.{rest_other}
 use Rattle.laws.proofs.RunsToRest.{Consistent}
 
 -- an order as the tally has it: only an order that stands shows lots
@@ -96,46 +96,33 @@ is_only m p o = cond-true (eqb o.number o.number) m (Some (account p (seen p o))
 
 sum_held : (g : View) (lots turn : ℕ) (o : Order) → lots ≤ o.open_lots →
     of_maybe g (take_off lots turn (account incoming (seen incoming o))) ≡ of_incoming (by_row g incoming) (incoming_left lots o)
-sum_held g lots turn o h = by_number o.open_lots lots (λ b. of_maybe g (take_off lots turn (account incoming (seen incoming o))) ≡ of_incoming (by_row g incoming)
-    (cond b None (Some (order_refilled o.turn lots o))))
+sum_held g lots turn o h = incoming_left_cases lots o (λ m. of_maybe g (take_off lots turn (account incoming (seen incoming o))) ≡ of_incoming (by_row g incoming) m) h
     (λ e. ap (of_maybe g) (cond-true (eqb (o.open_lots - lots) 0) None (Some (account incoming (lots_off lots (seen incoming o)))) (eq-eqb (o.open_lots - lots) 0 (omega arith))))
-    (λ e. ap (of_maybe g) (cond-false (eqb (o.open_lots - lots) 0) None (Some (account incoming (lots_off lots (seen incoming o)))) (ne_eqb (o.open_lots - lots) 0 (λ z. e (omega arith))))
+    (λ more. ap (of_maybe g) (cond-false (eqb (o.open_lots - lots) 0) None (Some (account incoming (lots_off lots (seen incoming o)))) (ne_eqb (o.open_lots - lots) 0 (λ z. omega arith)))
     ∙ (ap (λ n. g incoming (row_with o.turn (o.open_lots - lots) n (row_of o))) (let z : 0 - lots ≡ 0 = omega arith in z)
-    ∙ sym (ap (λ r. g incoming (as_seen incoming r)) (refilled_row o.turn lots o (apart e)))))
-  where
-    apart : (o.open_lots ≡ lots → ⊥) → lots < o.open_lots
-    apart e = omega arith
+    ∙ sym (ap (λ r. g incoming (as_seen incoming r)) (refilled_row o.turn lots o more))))
 
 sum_outcome : (g : View) (lots turn : ℕ) (r : Order) → lots ≤ r.shown →
     of_maybe g (take_off lots turn (account stands (seen stands r))) ≡ of_outcome (by_row g stands) (outcome lots r) lots turn r
 sum_outcome g lots turn r h =
     let x : OrderRow = lots_off lots (row_of r) in
-    let S : RestingOutcome → Type 0 = λ k. of_maybe g (take_off lots turn (account stands (seen stands r))) ≡ of_outcome (by_row g stands) k lots turn r in
     let left : Option Account = Some (account stands (refilled_if (shown_ran_out stands x) turn x)) in
-    cond_both (eqb r.open_lots lots) filled (cond (eqb r.shown lots) refilled reduced) S
-    (λ e. let z = eqb-true r.open_lots lots e in ap (of_maybe g) (cond-true (eqb (r.open_lots - lots) 0) None left (eq-eqb (r.open_lots - lots) 0 (omega arith))))
-    (λ e. let z = eqb-false r.open_lots lots e in
-    let n : eqb (r.open_lots - lots) 0 ≡ false = ne_eqb (r.open_lots - lots) 0 (λ y. omega arith) in
-    let a = ap (of_maybe g) (cond-false (eqb (r.open_lots - lots) 0) None left n) in
-    cond_both (eqb r.shown lots) refilled reduced S
-    (λ d. let y = eqb-true r.shown lots d in
+    outcome_cases lots r (λ k. of_maybe g (take_off lots turn (account stands (seen stands r))) ≡ of_outcome (by_row g stands) k lots turn r) h
+    (λ e. ap (of_maybe g) (cond-true (eqb (r.open_lots - lots) 0) None left (eq-eqb (r.open_lots - lots) 0 (omega arith))))
+    (λ e more. let n : eqb (r.open_lots - lots) 0 ≡ false = ne_eqb (r.open_lots - lots) 0 (λ y. omega arith) in
     let b : shown_ran_out stands x ≡ true = rw (n, eq-eqb (r.shown - lots) 0 (omega arith)) refl in
-    a ∙ (ap (λ b. g stands (refilled_if b turn x)) b ∙ sym (ap (g stands) (refilled_row turn lots r (omega arith)))))
-    (λ d. let y = eqb-false r.shown lots d in
+    ap (of_maybe g) (cond-false (eqb (r.open_lots - lots) 0) None left n)
+    ∙ (ap (λ b. g stands (refilled_if b turn x)) b ∙ sym (ap (g stands) (refilled_row turn lots r more))))
+    (λ less. let n : eqb (r.open_lots - lots) 0 ≡ false = ne_eqb (r.open_lots - lots) 0 (λ y. omega arith) in
     let b : shown_ran_out stands x ≡ false = rw (n, ne_eqb (r.shown - lots) 0 (λ v. omega arith)) refl in
-    a ∙ (ap (λ b. g stands (refilled_if b turn x)) b ∙ sym (ap (g stands) (reduced_row lots r (omega arith))))))
+    ap (of_maybe g) (cond-false (eqb (r.open_lots - lots) 0) None left n)
+    ∙ (ap (λ b. g stands (refilled_if b turn x)) b ∙ sym (ap (g stands) (reduced_row lots r less))))
 
 draws_outcome : (lots : ℕ) (r : Order) → lots ≤ r.shown → cond (shown_ran_out stands (lots_off lots (row_of r))) 1 0 ≡ outcome_stamps (outcome lots r)
-draws_outcome lots r h =
-    let x : OrderRow = lots_off lots (row_of r) in
-    let S : RestingOutcome → Type 0 = λ k. cond (shown_ran_out stands x) 1 0 ≡ outcome_stamps k in
-    cond_both (eqb r.open_lots lots) filled (cond (eqb r.shown lots) refilled reduced) S
-    (λ e. let z = eqb-true r.open_lots lots e in rw (eq-eqb (r.open_lots - lots) 0 (omega arith)) refl)
-    (λ e. let z = eqb-false r.open_lots lots e in
-    let n : eqb (r.open_lots - lots) 0 ≡ false = ne_eqb (r.open_lots - lots) 0 (λ y. omega arith) in
-    cond_both (eqb r.shown lots) refilled reduced S
-    (λ d. let y = eqb-true r.shown lots d in rw (n, eq-eqb (r.shown - lots) 0 (omega arith)) refl)
-    (λ d. let y = eqb-false r.shown lots d in rw (n, ne_eqb (r.shown - lots) 0 (λ v. omega arith)) refl))
+draws_outcome lots r h = outcome_cases lots r (λ k. cond (shown_ran_out stands (lots_off lots (row_of r))) 1 0 ≡ outcome_stamps k) h
+    (λ e. rw (eq-eqb (r.open_lots - lots) 0 (omega arith)) refl)
+    (λ e more. rw (ne_eqb (r.open_lots - lots) 0 (λ y. omega arith), eq-eqb (r.shown - lots) 0 (omega arith)) refl)
+    (λ less. rw (ne_eqb (r.open_lots - lots) 0 (λ y. omega arith), ne_eqb (r.shown - lots) 0 (λ v. omega arith)) refl)
 
 -- a trade
 

@@ -1,9 +1,10 @@
 -- Every turn is below the next stamp.
-use Rattle.std.proofs.Common.{◌≡◌, ℕ, ◌+◌, ◌<◌, ◌≤◌, cond, eqb, ltb, Some, None, sym, refl, ap, subst, arith}
+use Rattle.std.proofs.Common.{◌≡◌, ℕ, ◌+◌, ◌<◌, ◌≤◌, cond, ltb, None, sym, refl, ap, subst, arith}
 use Rattle.std.proofs.lemmas.Bool.{cond_both, cond-true, ltb-true, lt-ltb}
 use Rattle.orders.specs.declared.order.Order.{Order}
 use Rattle.orders.specs.Lots.{order_reduced, order_refilled}
 use Rattle.matching.specs.Model.{MatchState, Event, accepts, accepts_stop, accepts_and_cancels, accepts_unmatched, cancels_incoming, trades, rests, triggers, cancels_resting, amends, requeues, RestingOutcome, filled, refilled, reduced, outcome, incoming_left, trade_lots, apply}
+use Rattle.matching.proofs.OutcomeCases.{incoming_left_cases}
 use Rattle.laws.specs.Tally.{Status, stands, waits, incoming}
 use Rattle.laws.specs.WithinRoom.{event_stamps, outcome_stamps}
 use Rattle.laws.proofs.ConsistentQueues.{ConsistentQueues}
@@ -27,9 +28,8 @@ fewer_late stamp more p o = cond_both {A = ℕ} (ltb o.turn stamp) 0 1 (λ n. la
     (λ e. let k = early (stamp + more) p o (omega (arith, ltb-true o.turn stamp e)) in omega arith)
     (λ _. cond_both {A = ℕ} (ltb o.turn (stamp + more)) 0 1 (λ n. n ≤ 1) (λ _. omega arith) (λ _. omega arith))
 
-held_early : (stamp lots : ℕ) (o : Order) → o.turn < stamp → of_incoming (late stamp incoming) (incoming_left lots o) ≡ 0
-held_early stamp lots o h = cond_both (eqb o.open_lots lots) None (Some (order_refilled o.turn lots o)) (λ m. of_incoming (late stamp incoming) m ≡ 0) (λ _. refl)
-    (λ _. early stamp incoming (order_refilled o.turn lots o) h)
+held_early : (stamp lots : ℕ) (o : Order) → lots ≤ o.open_lots → o.turn < stamp → of_incoming (late stamp incoming) (incoming_left lots o) ≡ 0
+held_early stamp lots o most h = incoming_left_cases lots o (λ m. of_incoming (late stamp incoming) m ≡ 0) most (λ _. refl) (λ _. early stamp incoming (order_refilled o.turn lots o) h)
 
 outcome_early : (k : RestingOutcome) (lots stamp : ℕ) (r : Order) → r.turn < stamp → of_outcome (late (stamp + outcome_stamps k) stands) k lots stamp r ≡ 0
 outcome_early filled lots stamp r h = refl
@@ -46,7 +46,7 @@ coming_early (cancels_incoming c o) f h g = refl
 coming_early (trades o r) f h g =
     let a = is_early f.session.next_stamp incoming o (omega arith) in
     let b = is_early f.session.next_stamp stands r (omega arith) in
-    omega (arith, held_early (f.session.next_stamp + outcome_stamps (outcome (trade_lots o r) r)) (trade_lots o r) o (omega arith), outcome_early (outcome (trade_lots o r) r) (trade_lots o r) f.session.next_stamp r b)
+    omega (arith, held_early (f.session.next_stamp + outcome_stamps (outcome (trade_lots o r) r)) (trade_lots o r) o (omega arith) (omega arith), outcome_early (outcome (trade_lots o r) r) (trade_lots o r) f.session.next_stamp r b)
 coming_early (rests o) f h g = early (f.session.next_stamp + 0) stands o (omega (arith, is_early f.session.next_stamp incoming o g))
 coming_early (triggers s x) f h g = early (f.session.next_stamp + 1) incoming (order_refilled f.session.next_stamp 0 x.order) (omega arith)
 coming_early (cancels_resting c n i r) f h g = refl

@@ -1,5 +1,6 @@
 pub mod PartsFall
 pub mod WeightOfQueues
+pub mod OutcomeCases
 pub mod WeightFalls
 pub mod LoopTurns
 pub mod ReachByChains

@@ -1,6 +1,6 @@
 -- One event, then the rest: what the loops of the code stand on.
-use Rattle.std.proofs.Common.{Ok, Err, ◌≡◌, ℕ, zero, suc, ◌+◌, ◌<◌, ◌≤◌, Bool, true, false, cond, eqb, Some, None, Option, sym, refl, ap, ◌∙◌, subst, arith}
-use Rattle.std.proofs.lemmas.Bool.{cond_both, cond-true, eqb-true, eqb-false, eq-eqb}
+use Rattle.std.proofs.Common.{Ok, Err, ◌≡◌, ℕ, zero, suc, ◌+◌, ◌<◌, ◌≤◌, Bool, true, false, cond, Some, None, Option, sym, refl, ap, ◌∙◌, subst, arith}
+use Rattle.std.proofs.lemmas.Bool.{cond_both}
 use Rattle.orders.specs.declared.side.Side.{Side}
 use Rattle.orders.specs.declared.side.Side.TheVariants.{Buy, Sell}
 use Rattle.orders.specs.declared.order.Order.{Order}
@@ -13,8 +13,9 @@ use Rattle.books.specs.declared.queue.PutError.TheVariants.{Full, Twice}
 use Rattle.books.specs.declared.queue.Queue.TheVariants.{Orders}
 use Rattle.books.specs.declared.queue.Record.TheVariants.{Standing}
 use Rattle.books.specs.Model.{Queues, put_answer, taken, PutAnswer}
-use Rattle.matching.specs.Model.{MatchState, Event, accepts, accepts_stop, accepts_and_cancels, accepts_unmatched, cancels_incoming, trades, rests, triggers, cancels_resting, amends, requeues, RestingOutcome, filled, refilled, reduced, outcome, after_trade, incoming_left, trade_lots, apply}
+use Rattle.matching.specs.Model.{MatchState, Event, accepts, accepts_stop, accepts_and_cancels, accepts_unmatched, cancels_incoming, trades, rests, triggers, cancels_resting, amends, requeues, outcome, after_trade, incoming_left, trade_lots, apply}
 use Rattle.matching.specs.Running.{next_event, next_given, first_order, first_stop, rests_or_cancels, leftover, incoming_event, ripe, if_ripe, lower_turn, trigger_event, go_on_with, run_events, parts, incoming_weight, queues_weight, weight, run_to_rest}
+use Rattle.matching.proofs.OutcomeCases.{outcome_cases, incoming_left_cases}
 use Rattle.matching.proofs.PartsFall.{parts_most, parts_least, parts_refilled}
 use Rattle.matching.proofs.WeightOfQueues.{load_taken, load_triggered, load_placed, load_put_back, load_rewritten}
 
@@ -76,31 +77,29 @@ fits_with f None h =
 pub fits_next : (f : MatchState) → IsNext? (next_event f) f
 fits_next f = fits_with f f.incoming refl
 
-held_most : (lots : ℕ) (o : Order) → incoming_weight (incoming_left lots o) ≤ 17
-held_most lots o = cond_both (eqb o.open_lots lots) None (Some (order_refilled o.turn lots o)) (λ m. incoming_weight m ≤ 17) (λ _. omega arith) (λ _. omega arith)
+incoming_weight_most : (lots : ℕ) (o : Order) → lots ≤ o.open_lots → incoming_weight (incoming_left lots o) ≤ 17
+incoming_weight_most lots o h = incoming_left_cases lots o (λ m. incoming_weight m ≤ 17) h (λ _. omega arith) (λ _. omega arith)
 
-held_none : (lots : ℕ) (o : Order) → o.open_lots ≡ lots → incoming_weight (incoming_left lots o) ≡ 0
-held_none lots o e = ap incoming_weight (cond-true (eqb o.open_lots lots) None (Some (order_refilled o.turn lots o)) (eq-eqb o.open_lots lots e))
+incoming_weight_none : (lots : ℕ) (o : Order) → o.open_lots ≡ lots → incoming_weight (incoming_left lots o) ≡ 0
+incoming_weight_none lots o e = incoming_left_cases lots o (λ m. incoming_weight m ≡ 0) (omega arith) (λ _. refl) (λ h. absurd (omega arith))
 
 -- a trade spends one of the weight
 trade_spends : (s : Side) (stamp : ℕ) (o r : Order) (q : Queues) → first_order s q ≡ Some r → suc (queues_weight (after_trade (outcome (trade_lots o r) r) s (trade_lots o r) stamp r q) + incoming_weight (incoming_left (trade_lots o r) o)) ≤ queues_weight q + 17
 trade_spends s stamp o r q e =
     let n : ℕ = trade_lots o r in
-    let a = held_most n o in
+    let a = incoming_weight_most n o (omega arith) in
     let t = load_taken s r q e in
     let l = parts_least r in
-    let S : RestingOutcome → Type 0 = λ k. suc (queues_weight (after_trade k s n stamp r q) + incoming_weight (incoming_left n o)) ≤ queues_weight q + 17 in
-    cond_both (eqb r.open_lots n) filled (cond (eqb r.shown n) refilled reduced) S
+    outcome_cases n r (λ k. suc (queues_weight (after_trade k s n stamp r q) + incoming_weight (incoming_left n o)) ≤ queues_weight q + 17) (omega arith)
     (λ _. omega arith)
-    (λ w. let y = eqb-false r.open_lots n w in cond_both (eqb r.shown n) refilled reduced S
-    (λ v. let z : r.shown ≡ n = eqb-true r.shown n v in
+    (λ shown more.
     let p = load_put_back (order_refilled stamp n r) (taken (Orders s) 0 q) in
-    let u : suc (parts (order_refilled stamp n r)) ≤ parts r = subst (λ k. suc (parts (order_refilled stamp k r)) ≤ parts r) z (parts_refilled stamp r (omega arith)) in
+    let u : suc (parts (order_refilled stamp n r)) ≤ parts r = subst (λ k. suc (parts (order_refilled stamp k r)) ≤ parts r) shown (parts_refilled stamp r (omega arith)) in
     omega arith)
-    (λ v. let z = eqb-false r.shown n v in
+    (λ less.
     let p = load_rewritten 0 (order_reduced n r) q in
-    let h = held_none n o (omega arith) in
-    omega arith))
+    let h = incoming_weight_none n o (omega arith) in
+    omega arith)
 
 in_incoming_is : (m : Option Order) (o : Order) → m ≡ Some o → incoming_weight m ≡ 17
 in_incoming_is m o e = ap incoming_weight e
