@@ -1,30 +1,28 @@
 -- Each event is within room: its lines and stamps are had in full, what it puts is taken, and its orders keep their bounds.
-use Rattle.std.proofs.Common.{◌≡◌, ℕ, zero, suc, ◌-◌, ◌≤◌, Bool, true, false, cond, ltb, List, [], ◌∷◌, Some, None, Option, sym, refl, ap, ◌∙◌, subst, arith, Ok, Err}
+use Rattle.std.proofs.Common.{◌≡◌, ℕ, zero, suc, ◌-◌, ◌≤◌, Bool, true, false, cond, ltb, Some, None, Option, sym, refl, ap, ◌∙◌, subst, arith, Ok, Err}
 use Rattle.std.specs.List.{slice_get}
-use Rattle.std.specs.Option.{option_map}
 use Rattle.std.proofs.lemmas.Bool.{cond_both}
 use Rattle.orders.specs.declared.side.Side.{Side}
-use Rattle.orders.specs.declared.side.Side.TheVariants.{Buy, Sell}
 use Rattle.orders.specs.declared.order.Order.{Order}
-use Rattle.orders.specs.declared.order.Stop.{Stop}
-use Rattle.orders.specs.Sides.{opposite, is_immediate}
-use Rattle.orders.specs.Lots.{order_refilled, within_limit, same_investor, with_lots, showing}
+use Rattle.orders.specs.Sides.{opposite}
+use Rattle.orders.specs.Lots.{order_refilled, with_lots, showing}
 use Rattle.orders.proofs.RowRoundTrip.{in_bounds_from}
 use Rattle.books.specs.declared.queue.Queue.TheVariants.{Orders}
 use Rattle.books.specs.declared.queue.Record.{Record}
 use Rattle.books.specs.declared.queue.Record.TheVariants.{Standing, Waiting}
 use Rattle.books.specs.declared.queue.PutError.TheVariants.{Full, Twice}
-use Rattle.books.specs.Model.{Queues, at, count, capacity, queue_of, number_of, standing_order, put_answer, taken, PutAnswer}
-use Rattle.tapes.specs.declared.cause.Cause.TheVariants.{Leftover, OwnInvestor, ShortReach}
+use Rattle.books.specs.Model.{Queues, at, count, capacity, queue_of, number_of, put_answer, taken, PutAnswer}
+use Rattle.tapes.specs.declared.cause.Cause.{Cause}
+use Rattle.tapes.specs.declared.cause.Cause.TheVariants.{NewOrder as WasRequested, Leftover, ShortReach, OwnInvestor, NotPut, NoOpposite, DayClosed}
 use Rattle.matching.specs.declared.new_order.OrderType.{OrderType}
 use Rattle.matching.specs.declared.new_order.OrderType.TheVariants.{Limit, Market, StopLimit}
 use Rattle.matching.specs.declared.new_order.NewOrder.{NewOrder}
 use Rattle.matching.specs.Model.{MatchState, Event, accepts, accepts_stop, accepts_and_cancels, accepts_unmatched, cancels_incoming, trades, rests, triggers, cancels_resting, amends, requeues, RestingOutcome, filled, refilled, reduced, outcome, trade_lots, apply}
-use Rattle.matching.specs.Running.{next_event, next_given, first_order, first_stop, rests_or_cancels, leftover, incoming_event, if_ripe, lower_turn, trigger_event, run_events, weight, run_to_rest}
+use Rattle.matching.specs.Running.{next_event, first_order, run_events, weight, run_to_rest}
 use Rattle.matching.specs.Entering.{entered_order, falls_short, accepts_or_cancels, entered_stop, accepts_stop_or_cancels, market_arrival, arrival_as, arrival}
 use Rattle.matching.proofs.OutcomeCases.{outcome_cases}
 use Rattle.matching.proofs.PartsFall.{reduced_fits, refilled_fits}
-use Rattle.matching.proofs.WeightFalls.{run_events_next, run_events_zero, weight_falls}
+use Rattle.matching.proofs.WeightFalls.{IfRefused, IsNext, is_next, run_events_next, run_events_zero, weight_falls}
 use Rattle.laws.specs.Tally.{incoming}
 use Rattle.laws.specs.WithinRoom.{outcome_put, PutDone, outcome_in_bounds, EventInBounds, WithinRoom, Trace, ended, then}
 use Rattle.laws.proofs.ConsistentQueues.{ConsistentQueues}
@@ -32,7 +30,7 @@ use Rattle.laws.proofs.SumsOverOrders.{queued, of_incoming, one_of, put_new}
 use Rattle.laws.proofs.EventsApply.{Trades, Single, one_itself, put_back_done, rest_side}
 use Rattle.laws.proofs.LinesAndStamps.{Roomy, tape_is, stamp_is}
 use Rattle.laws.proofs.AccountsBalance.{absent}
-use Rattle.laws.proofs.RunsToRest.{Consistent, consistent_apply, Quiescent, Next?, fits_next, Enough, roomy_next, enough_next}
+use Rattle.laws.proofs.RunsToRest.{Consistent, consistent_apply, Quiescent, next_may_apply, Enough, roomy_next, enough_next}
 
 pub trace-++ : {f g h : MatchState} → Trace f g → Trace g h → Trace f h
 trace-++ ended k = k
@@ -52,17 +50,7 @@ pub incoming_alone : (f : MatchState) (o : Order) → f.incoming ≡ Some o → 
 incoming_alone f o h s = let z : of_incoming (one_of o.number incoming) f.incoming ≡ one_of o.number incoming o = ap
     (of_incoming (one_of o.number incoming)) h in omega (arith, s o.number, one_itself incoming o)
 
--- what is next puts well
-
-well_stands : (p : PutAnswer) (o : Order) (f : MatchState) → put_answer (Standing o) f.queues ≡ p → f.incoming ≡ Some o → Single f → PutDone (rests_or_cancels p o) f
-well_stands (Ok _) o f e h s = e
-well_stands (Err Full) o f e h s = e
-well_stands (Err Twice) o f e h s = absurd (never_twice (Standing o) f.queues (incoming_alone f o h s) e)
-
-well_leftover : (o : Order) (f : MatchState) → f.incoming ≡ Some o → Single f → PutDone (leftover o f.queues) f
-well_leftover o f h s =
-    cond_both (is_immediate o.validity) (cancels_incoming Leftover o) (rests_or_cancels (put_answer (Standing o) f.queues) o) (λ e. PutDone e f) (λ _. tt)
-    (λ _. well_stands (put_answer (Standing o) f.queues) o f refl h s)
+-- the book takes what the next event puts
 
 well_trade : (o r : Order) (f : MatchState) → Trades o r f → ConsistentQueues f.queues → Single f → PutDone (trades o r) f
 well_trade o r f h g s =
@@ -75,30 +63,28 @@ well_trade o r f h g s =
     go refilled e = put_back_done r (order_refilled f.session.next_stamp (trade_lots o r) r) f refl refl e g s
     go reduced e = tt
 
-well_meets : (o : Order) (l : List Order) (f : MatchState) → f.incoming ≡ Some o → at (opposite o.side) f.queues.stands ≡ l → ConsistentQueues f.queues → Single f →
-    PutDone (incoming_event o (standing_order (option_map Standing (slice_get l 0))) f.queues) f
-well_meets o [] f h e g s = well_leftover o f h s
-well_meets o (r ∷ rest) f h e g s =
-    cond_both (within_limit o.side o.price r.price) (cond (same_investor o r) (cancels_incoming OwnInvestor o) (trades o r)) (leftover o f.queues) (λ e. PutDone e f)
-    (λ w. cond_both (same_investor o r) (cancels_incoming OwnInvestor o) (trades o r) (λ e. PutDone e f) (λ _. tt) (λ _. well_trade o r f (record { is_incoming = h; first = ap (λ l. slice_get l 0) e; within_its_limit = w }) g s))
-    (λ w. well_leftover o f h s)
+refused_is_full : (c : Cause) (o : Order) (f : MatchState) → f.incoming ≡ Some o → Single f → IfRefused c o f.queues → PutDone (cancels_incoming c o) f
+refused_is_full NotPut o f h s (Full, e) = e
+refused_is_full NotPut o f h s (Twice, e) = absurd (never_twice (Standing o) f.queues (incoming_alone f o h s) e)
+refused_is_full WasRequested o f h s r = tt
+refused_is_full Leftover o f h s r = tt
+refused_is_full ShortReach o f h s r = tt
+refused_is_full OwnInvestor o f h s r = tt
+refused_is_full NoOpposite o f h s r = tt
+refused_is_full DayClosed o f h s r = tt
 
-abbrev Well? : Option Event → MatchState → Type 0
-Well? None f = Unit {0}
-Well? (Some e) f = PutDone e f
-
-well_sooner : (f : MatchState) (a b : Option Stop) → Well? (trigger_event (lower_turn a b)) f
-well_sooner f None None = tt
-well_sooner f (Some x) None = tt
-well_sooner f None (Some y) = tt
-well_sooner f (Some x) (Some y) = cond_both (ltb y.order.turn x.order.turn) (Some (Sell, y)) (Some (Buy, x)) (λ m. Well? (trigger_event m) f) (λ _. tt) (λ _. tt)
-
-well_next : (f : MatchState) → Consistent f → Well? (next_event f) f
-well_next f s = go f.incoming refl
-  where
-    go : (m : Option Order) → f.incoming ≡ m → Well? (next_given m f) f
-    go (Some o) h = well_meets o (at (opposite o.side) f.queues.stands) f h refl s.queues s.counts.single
-    go None h = well_sooner f (if_ripe Buy f.session.last_price (first_stop Buy f.queues)) (if_ripe Sell f.session.last_price (first_stop Sell f.queues))
+next_put_done : (e : Event) (f : MatchState) → IsNext e f → Consistent f → PutDone e f
+next_put_done (cancels_incoming c o) f h s = refused_is_full c o f h.0 s.counts.single h.1
+next_put_done (trades o r) f h s = well_trade o r f (next_may_apply (trades o r) f h s.queues).0 s.queues s.counts.single
+next_put_done (rests o) f h s = h.1
+next_put_done (triggers z x) f h s = tt
+next_put_done (accepts o) f h s = absurd h
+next_put_done (accepts_stop x) f h s = absurd h
+next_put_done (accepts_and_cancels c o) f h s = absurd h
+next_put_done (accepts_unmatched n k) f h s = absurd h
+next_put_done (cancels_resting c n i r) f h s = absurd h
+next_put_done (amends i o) f h s = absurd h
+next_put_done (requeues z i o) f h s = absurd h
 
 -- bounds
 
@@ -130,14 +116,16 @@ within_room e f r p = record { lines_written = tape_is e f r; stamps_drawn = sta
 
 run_events_trace : (k : ℕ) (f : MatchState) → Consistent f → Enough f → Trace f (run_events k f)
 run_events_trace zero f s h = subst (Trace f) (sym (run_events_zero f)) ended
-run_events_trace (suc k) f s h = go (next_event f) refl (fits_next f s.queues) (well_next f s) (run_events_trace k)
+run_events_trace (suc k) f s h = go (next_event f) refl (run_events_trace k)
   where
-    go : (m : Option Event) → next_event f ≡ m → Next? m f → Well? m f → ((f : MatchState) → Consistent f → Enough f → Trace f (run_events k f)) → Trace f (run_events (suc k) f)
-    go None n _ _ ih = subst (Trace f) (sym (run_events_next k f None n)) ended
-    go (Some e) n x p ih =
+    go : (m : Option Event) → next_event f ≡ m → ((f : MatchState) → Consistent f → Enough f → Trace f (run_events k f)) → Trace f (run_events (suc k) f)
+    go None n ih = subst (Trace f) (sym (run_events_next k f None n)) ended
+    go (Some e) n ih =
+        let i = is_next e f n in
+        let x = next_may_apply e f i s.queues in
         let w = weight_falls e f n in
         let r = roomy_next e f x.1 w h in
-        subst (Trace f) (sym (run_events_next k f (Some e) n)) (then e (within_room e f r p) (ih (apply e f) (consistent_apply e f x.0 r s) (enough_next e f x.1 w h)))
+        subst (Trace f) (sym (run_events_next k f (Some e) n)) (then e (within_room e f r (next_put_done e f i s)) (ih (apply e f) (consistent_apply e f x.0 r s) (enough_next e f x.1 w h)))
 
 pub run_to_rest_trace : (f : MatchState) → Consistent f → Enough f → Trace f (run_to_rest f)
 unfolding run_to_rest

@@ -2,23 +2,21 @@
 use Rattle.std.proofs.Common.{◌≡◌, ℕ, zero, suc, ◌+◌, ◌<◌, ◌≤◌, Bool, true, false, cond, ltb, List, [], ◌∷◌, length, is_some, Some, None, Option, sym, refl, ap, ◌∙◌, subst, arith, length-append, Ok, Err}
 use Rattle.std.specs.List.{AllByRecursion, slice_get}
 use Rattle.std.specs.Option.{option_map}
-use Rattle.std.proofs.lemmas.Bool.{cond_both, ltb-true}
+use Rattle.std.proofs.lemmas.Bool.{ltb-true}
 use Rattle.orders.specs.declared.side.Side.{Side}
 use Rattle.orders.specs.declared.side.Side.TheVariants.{Buy, Sell}
 use Rattle.orders.specs.declared.price.Price.{Price}
 use Rattle.orders.specs.declared.order.Order.{Order}
 use Rattle.orders.specs.declared.order.Stop.{Stop}
 use Rattle.orders.specs.Ranks.{ranks_ahead, stop_key}
-use Rattle.orders.specs.Sides.{opposite, is_immediate}
-use Rattle.orders.specs.Lots.{within_limit, same_investor}
+use Rattle.orders.specs.Sides.{opposite}
 use Rattle.books.specs.declared.queue.Record.{Record}
 use Rattle.books.specs.declared.queue.Record.TheVariants.{Standing, Waiting}
 use Rattle.books.specs.declared.queue.PutError.TheVariants.{Full, Twice}
 use Rattle.books.specs.Model.{Queues, at, rank_of, stop_rank_of, count, capacity, queue_of, number_of, found, standing_order, waiting_stop, put_answer, PutAnswer}
-use Rattle.tapes.specs.declared.cause.Cause.TheVariants.{Leftover, OwnInvestor}
 use Rattle.matching.specs.Model.{MatchState, Event, accepts, accepts_stop, accepts_and_cancels, accepts_unmatched, cancels_incoming, trades, rests, triggers, cancels_resting, amends, requeues, RestingOutcome, filled, refilled, reduced, outcome, trade_lots, apply}
-use Rattle.matching.specs.Running.{next_event, next_given, first_stop, rests_or_cancels, leftover, incoming_event, ripe, if_ripe, lower_turn, trigger_event, run_events, weight, run_to_rest}
-use Rattle.matching.proofs.WeightFalls.{run_events_next, run_events_zero, weight_falls}
+use Rattle.matching.specs.Running.{next_event, next_given, first_order, first_stop, ripe, if_ripe, lower_turn, trigger_event, run_events, weight, run_to_rest}
+use Rattle.matching.proofs.WeightFalls.{NoMatch, IsNext, is_next, run_events_next, run_events_zero, weight_falls}
 use Rattle.laws.specs.Quiescence.{Unripe}
 use Rattle.laws.proofs.SortedLists.{Sorted}
 use Rattle.laws.proofs.ConsistentQueues.{ConsistentQueues, Sided, StopSided, Beyond, beyond_first, no_riper}
@@ -81,10 +79,6 @@ one_line_each (requeues s i o) h = absurd h
 abbrev pub Next : Event → MatchState → Type 0
 Next e f = MayApply e f × Follows e
 
-abbrev pub Next? : Option Event → MatchState → Type 0
-Next? None f = Unit {0}
-Next? (Some e) f = Next e f
-
 -- a put that is done found room
 pub done_room : (e : Record) (q : Queues) → put_answer e q ≡ Ok tt → count (queue_of e) q < capacity (queue_of e) q
 done_room e q h = go (ltb (count (queue_of e) q) (capacity (queue_of e) q)) refl h
@@ -94,52 +88,42 @@ done_room e q h = go (ltb (count (queue_of e) q) (capacity (queue_of e) q)) refl
     go true k _ = ltb-true (count (queue_of e) q) (capacity (queue_of e) q) k
     go false k z = let u : ◌≡◌ {A = ℕ} 0 1 = cc in absurd (omega arith)
 
-next_stands : (p : PutAnswer) (o : Order) (f : MatchState) → put_answer (Standing o) f.queues ≡ p → f.incoming ≡ Some o →
-    Beyond o.side o.price (at (opposite o.side) f.queues.stands) → Next (rests_or_cancels p o) f
-next_stands (Ok _) o f e h b = (record { is_incoming = h; beyond = b; room_left = done_room (Standing o) f.queues e }, tt)
-next_stands (Err Full) o f e h b = (h, tt)
-next_stands (Err Twice) o f e h b = (h, tt)
+-- the first order, and the first stop, of a queue
+first_order_is : (s : Side) (q : Queues) (r : Order) → first_order s q ≡ Some r → slice_get (at s q.stands) 0 ≡ Some r
+first_order_is s q r e = go (slice_get (at s q.stands) 0) e
+  where
+    go : (m : Option Order) → standing_order (option_map Standing m) ≡ Some r → m ≡ Some r
+    go None e = e
+    go (Some o) e = e
 
-next_leftover : (o : Order) (f : MatchState) → f.incoming ≡ Some o → Beyond o.side o.price (at (opposite o.side) f.queues.stands) → Next (leftover o f.queues) f
-next_leftover o f h b =
-    cond_both (is_immediate o.validity) (cancels_incoming Leftover o) (rests_or_cancels (put_answer (Standing o) f.queues) o) (λ e. Next e f) (λ _. (h, tt))
-    (λ _. next_stands (put_answer (Standing o) f.queues) o f refl h b)
+first_stop_is : (s : Side) (q : Queues) (x : Stop) → first_stop s q ≡ Some x → slice_get (at s q.waits) 0 ≡ Some x
+first_stop_is s q x e = go (slice_get (at s q.waits) 0) e
+  where
+    go : (m : Option Stop) → waiting_stop (option_map Waiting m) ≡ Some x → m ≡ Some x
+    go None e = e
+    go (Some y) e = e
 
-next_meets : (o : Order) (l : List Order) (f : MatchState) → f.incoming ≡ Some o → at (opposite o.side) f.queues.stands ≡ l → ConsistentQueues f.queues →
-    Next (incoming_event o (standing_order (option_map Standing (slice_get l 0))) f.queues) f
-next_meets o [] f h e g = next_leftover o f h (rw e tt)
-next_meets o (r ∷ rest) f h e g =
+-- where the first order is not within the limit, none is
+beyond_all : (o : Order) (l : List Order) → Sorted rank_of l → AllByRecursion (Sided (opposite o.side)) l →
+    NoMatch o (standing_order (option_map Standing (slice_get l 0))) → Beyond o.side o.price l
+beyond_all o [] h d w = tt
+beyond_all o (r ∷ rest) h d w = beyond_first o.side o.price r rest h d w
+
+-- what is next may apply
+pub next_may_apply : (e : Event) (f : MatchState) → IsNext e f → ConsistentQueues f.queues → Next e f
+next_may_apply (cancels_incoming c o) f h g = (h.0, tt)
+next_may_apply (trades o r) f h g = (record { is_incoming = h.0; first = first_order_is (opposite o.side) f.queues r h.1; within_its_limit = h.2 }, tt)
+next_may_apply (rests o) f h g =
     let s : Side = opposite o.side in
-    cond_both (within_limit o.side o.price r.price) (cond (same_investor o r) (cancels_incoming OwnInvestor o) (trades o r)) (leftover o f.queues) (λ e. Next e f)
-    (λ w. cond_both (same_investor o r) (cancels_incoming OwnInvestor o) (trades o r) (λ e. Next e f) (λ _. (h, tt)) (λ _. (record { is_incoming = h; first = ap (λ l. slice_get l 0) e; within_its_limit = w }, tt)))
-    (λ w. next_leftover o f h (subst (Beyond o.side o.price) (sym e) (beyond_first o.side o.price r rest (subst (Sorted rank_of) e (g.sorted s))
-    (subst (AllByRecursion (Sided s)) e (g.sided s)) w)))
-
--- a ripe first stop is the first of its queue
-ripe_first : (s : Side) (last : Option Price) (l : List Stop) (x : Stop) → if_ripe s last (waiting_stop (option_map Waiting (slice_get l 0))) ≡ Some x → slice_get l 0 ≡ Some x
-ripe_first s last [] x e = e
-ripe_first s last (y ∷ l) x e = go (ripe s last y.trigger) e
-  where
-    go : (b : Bool) → cond b (Some y) None ≡ Some x → Some y ≡ Some x
-    go true e = e
-    go false e = let z : ◌≡◌ {A = ℕ} 0 1 = cc in absurd (omega arith)
-
-next_sooner : (f : MatchState) (a b : Option Stop) → f.incoming ≡ None → ((x : Stop) → a ≡ Some x → slice_get (at Buy f.queues.waits) 0 ≡ Some x) →
-    ((y : Stop) → b ≡ Some y → slice_get (at Sell f.queues.waits) 0 ≡ Some y) → Next? (trigger_event (lower_turn a b)) f
-next_sooner f None None h p q = tt
-next_sooner f (Some x) None h p q = ((h, p x refl), tt)
-next_sooner f None (Some y) h p q = ((h, q y refl), tt)
-next_sooner f (Some x) (Some y) h p q = cond_both (ltb y.order.turn x.order.turn) (Some (Sell, y)) (Some (Buy, x)) (λ m. Next? (trigger_event m) f)
-    (λ _. ((h, q y refl), tt)) (λ _. ((h, p x refl), tt))
-
-pub fits_next : (f : MatchState) → ConsistentQueues f.queues → Next? (next_event f) f
-fits_next f g = go f.incoming refl
-  where
-    go : (m : Option Order) → f.incoming ≡ m → Next? (next_given m f) f
-    go (Some o) h = next_meets o (at (opposite o.side) f.queues.stands) f h refl g
-    go None h =
-        next_sooner f (if_ripe Buy f.session.last_price (first_stop Buy f.queues)) (if_ripe Sell f.session.last_price (first_stop Sell f.queues)) h
-        (ripe_first Buy f.session.last_price f.queues.waits.buy) (ripe_first Sell f.session.last_price f.queues.waits.sell)
+    (record { is_incoming = h.0; beyond = beyond_all o (at s f.queues.stands) (g.sorted s) (g.sided s) h.2; room_left = done_room (Standing o) f.queues h.1 }, tt)
+next_may_apply (triggers s x) f h g = ((h.0, first_stop_is s f.queues x h.1), tt)
+next_may_apply (accepts o) f h g = absurd h
+next_may_apply (accepts_stop x) f h g = absurd h
+next_may_apply (accepts_and_cancels c o) f h g = absurd h
+next_may_apply (accepts_unmatched n k) f h g = absurd h
+next_may_apply (cancels_resting c n i r) f h g = absurd h
+next_may_apply (amends i o) f h g = absurd h
+next_may_apply (requeues s i o) f h g = absurd h
 
 -- from one match state to another by such events, each with room for its line and its stamp
 pub data Leads : MatchState → MatchState → Type 0 where
@@ -167,11 +151,12 @@ enough_next e f i w h =
 
 pub run_events_leads : (k : ℕ) (f : MatchState) → Consistent f → Enough f → Leads f (run_events k f)
 run_events_leads zero f s h = subst (Leads f) (sym (run_events_zero f)) at_end
-run_events_leads (suc k) f s h = go (next_event f) refl (fits_next f s.queues) (run_events_leads k)
+run_events_leads (suc k) f s h = go (next_event f) refl (run_events_leads k)
   where
-    go : (m : Option Event) → next_event f ≡ m → Next? m f → ((f : MatchState) → Consistent f → Enough f → Leads f (run_events k f)) → Leads f (run_events (suc k) f)
-    go None n _ ih = subst (Leads f) (sym (run_events_next k f None n)) at_end
-    go (Some e) n x ih =
+    go : (m : Option Event) → next_event f ≡ m → ((f : MatchState) → Consistent f → Enough f → Leads f (run_events k f)) → Leads f (run_events (suc k) f)
+    go None n ih = subst (Leads f) (sym (run_events_next k f None n)) at_end
+    go (Some e) n ih =
+        let x = next_may_apply e f (is_next e f n) s.queues in
         let w = weight_falls e f n in
         let r = roomy_next e f x.1 w h in
         subst (Leads f) (sym (run_events_next k f (Some e) n)) (then e x r (ih (apply e f) (consistent_apply e f x.0 r s) (enough_next e f x.1 w h)))

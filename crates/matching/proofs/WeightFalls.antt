@@ -1,4 +1,4 @@
--- One event, then the rest: what the loops of the code stand on.
+-- What is known of the next event, that each takes one of the weight, and so that a run comes to rest.
 use Rattle.std.proofs.Common.{Ok, Err, ◌≡◌, ℕ, zero, suc, ◌+◌, ◌<◌, ◌≤◌, Bool, true, false, cond, Some, None, Option, sym, refl, ap, ◌∙◌, subst, arith}
 use Rattle.std.proofs.lemmas.Bool.{cond_both}
 use Rattle.orders.specs.declared.side.Side.{Side}
@@ -8,7 +8,9 @@ use Rattle.orders.specs.declared.order.Stop.{Stop}
 use Rattle.orders.specs.declared.price.Price.{Price}
 use Rattle.orders.specs.Sides.{opposite, is_immediate}
 use Rattle.orders.specs.Lots.{order_reduced, order_refilled, within_limit, same_investor}
-use Rattle.tapes.specs.declared.cause.Cause.TheVariants.{Leftover, OwnInvestor}
+use Rattle.tapes.specs.declared.cause.Cause.{Cause}
+use Rattle.tapes.specs.declared.cause.Cause.TheVariants.{Leftover, OwnInvestor, NotPut}
+use Rattle.books.specs.declared.queue.PutError.{PutError}
 use Rattle.books.specs.declared.queue.PutError.TheVariants.{Full, Twice}
 use Rattle.books.specs.declared.queue.Queue.TheVariants.{Orders}
 use Rattle.books.specs.declared.queue.Record.TheVariants.{Standing}
@@ -19,63 +21,70 @@ use Rattle.matching.proofs.OutcomeCases.{outcome_cases, incoming_left_cases}
 use Rattle.matching.proofs.PartsFall.{parts_most, parts_least, parts_refilled}
 use Rattle.matching.proofs.WeightOfQueues.{load_taken, load_triggered, load_placed, load_put_back, load_rewritten}
 
--- when an event is next
-abbrev pub IsNext : Event → MatchState → Type 0
-IsNext (accepts o) f = ⊥
-IsNext (accepts_stop x) f = ⊥
-IsNext (accepts_and_cancels c o) f = ⊥
-IsNext (accepts_unmatched n k) f = ⊥
-IsNext (cancels_incoming c o) f = f.incoming ≡ Some o
-IsNext (trades o r) f = (f.incoming ≡ Some o) × (first_order (opposite o.side) f.queues ≡ Some r)
-IsNext (rests o) f = f.incoming ≡ Some o
-IsNext (triggers s x) f = (f.incoming ≡ None) × (first_stop s f.queues ≡ Some x)
-IsNext (cancels_resting c n i r) f = ⊥
-IsNext (amends i o) f = ⊥
-IsNext (requeues s i o) f = ⊥
+-- an order that was cancelled because put refused it
+abbrev pub IfRefused : Cause → Order → Queues → Type 0
+IfRefused NotPut o q = (error : PutError) × (put_answer (Standing o) q ≡ Err error)
+IfRefused _ o q = Unit {0}
 
-abbrev pub IsNext? : Option Event → MatchState → Type 0
+-- no opposite order stands, or the first one's price is not within the limit
+abbrev pub NoMatch : Order → Option Order → Type 0
+NoMatch o None = Unit {0}
+NoMatch o (Some r) = within_limit o.side o.price r.price ≡ false
+
+-- what is known where an event is next
+abbrev pub IsNext : Event → MatchState → Type 0
+IsNext (cancels_incoming c o) f = (f.incoming ≡ Some o) × IfRefused c o f.queues
+IsNext (trades o r) f = (f.incoming ≡ Some o) × (first_order (opposite o.side) f.queues ≡ Some r) × (within_limit o.side o.price r.price ≡ true)
+IsNext (rests o) f = (f.incoming ≡ Some o) × (put_answer (Standing o) f.queues ≡ Ok tt) × NoMatch o (first_order (opposite o.side) f.queues)
+IsNext (triggers s x) f = (f.incoming ≡ None) × (first_stop s f.queues ≡ Some x)
+IsNext _ f = ⊥
+
+abbrev IsNext? : Option Event → MatchState → Type 0
 IsNext? None f = Unit {0}
 IsNext? (Some e) f = IsNext e f
 
-fits_stands : (p : PutAnswer) (o : Order) (f : MatchState) → f.incoming ≡ Some o → IsNext (rests_or_cancels p o) f
-fits_stands (Ok _) o f h = h
-fits_stands (Err Full) o f h = h
-fits_stands (Err Twice) o f h = h
+next_rests_or_cancels : (p : PutAnswer) (o : Order) (f : MatchState) → put_answer (Standing o) f.queues ≡ p → f.incoming ≡ Some o →
+    NoMatch o (first_order (opposite o.side) f.queues) → IsNext (rests_or_cancels p o) f
+next_rests_or_cancels (Ok _) o f e h n = (h, e, n)
+next_rests_or_cancels (Err Full) o f e h n = (h, (Full, e))
+next_rests_or_cancels (Err Twice) o f e h n = (h, (Twice, e))
 
-fits_leftover : (o : Order) (f : MatchState) → f.incoming ≡ Some o → IsNext (leftover o f.queues) f
-fits_leftover o f h = cond_both (is_immediate o.validity) (cancels_incoming Leftover o) (rests_or_cancels (put_answer (Standing o) f.queues) o) (λ e. IsNext e f) (λ _. h) (λ _. fits_stands (put_answer (Standing o) f.queues) o f h)
+next_leftover : (o : Order) (f : MatchState) → f.incoming ≡ Some o → NoMatch o (first_order (opposite o.side) f.queues) → IsNext (leftover o f.queues) f
+next_leftover o f h n =
+    cond_both (is_immediate o.validity) (cancels_incoming Leftover o) (rests_or_cancels (put_answer (Standing o) f.queues) o) (λ e. IsNext e f) (λ _. (h, tt))
+    (λ _. next_rests_or_cancels (put_answer (Standing o) f.queues) o f refl h n)
 
-fits_meets : (o : Order) (m : Option Order) (f : MatchState) → f.incoming ≡ Some o → first_order (opposite o.side) f.queues ≡ m → IsNext (incoming_event o m f.queues) f
-fits_meets o None f h e = fits_leftover o f h
-fits_meets o (Some r) f h e =
+next_incoming : (o : Order) (m : Option Order) (f : MatchState) → f.incoming ≡ Some o → first_order (opposite o.side) f.queues ≡ m → IsNext (incoming_event o m f.queues) f
+next_incoming o None f h e = next_leftover o f h (subst (NoMatch o) (sym e) tt)
+next_incoming o (Some r) f h e =
     cond_both (within_limit o.side o.price r.price) (cond (same_investor o r) (cancels_incoming OwnInvestor o) (trades o r)) (leftover o f.queues) (λ e. IsNext e f)
-    (λ _. cond_both (same_investor o r) (cancels_incoming OwnInvestor o) (trades o r) (λ e. IsNext e f) (λ _. h) (λ _. (h, e)))
-    (λ _. fits_leftover o f h)
+    (λ w. cond_both (same_investor o r) (cancels_incoming OwnInvestor o) (trades o r) (λ e. IsNext e f) (λ _. (h, tt)) (λ _. (h, e, w)))
+    (λ w. next_leftover o f h (subst (NoMatch o) (sym e) w))
 
--- the ripe ones are the first of their queues
-if_ripe_is : (s : Side) (last : Option Price) (m : Option Stop) (x : Stop) → if_ripe s last m ≡ Some x → m ≡ Some x
-if_ripe_is s last None x e = e
-if_ripe_is s last (Some y) x e = go (ripe s last y.trigger) e
+-- a ripe first stop is the first of its queue
+ripe_is_first : (s : Side) (last : Option Price) (m : Option Stop) (x : Stop) → if_ripe s last m ≡ Some x → m ≡ Some x
+ripe_is_first s last None x e = e
+ripe_is_first s last (Some y) x e = go (ripe s last y.trigger) e
   where
     go : (b : Bool) → cond b (Some y) None ≡ Some x → Some y ≡ Some x
     go true e = e
     go false e = let z : ◌≡◌ {A = ℕ} 0 1 = cc in absurd (omega arith)
 
-fits_sooner : (f : MatchState) (a b : Option Stop) → f.incoming ≡ None → ((x : Stop) → a ≡ Some x → first_stop Buy f.queues ≡ Some x) → ((y : Stop) → b ≡ Some y → first_stop Sell f.queues ≡ Some y) → IsNext? (trigger_event (lower_turn a b)) f
-fits_sooner f None None h p q = tt
-fits_sooner f (Some x) None h p q = (h, p x refl)
-fits_sooner f None (Some y) h p q = (h, q y refl)
-fits_sooner f (Some x) (Some y) h p q = cond_both _ (Some (Sell, y)) (Some (Buy, x)) (λ m. IsNext? (trigger_event m) f) (λ _. (h, q y refl)) (λ _. (h, p x refl))
+next_trigger : (f : MatchState) (a b : Option Stop) → f.incoming ≡ None → ((x : Stop) → a ≡ Some x → first_stop Buy f.queues ≡ Some x) → ((y : Stop) → b ≡ Some y → first_stop Sell f.queues ≡ Some y) → IsNext? (trigger_event (lower_turn a b)) f
+next_trigger f None None h p q = tt
+next_trigger f (Some x) None h p q = (h, p x refl)
+next_trigger f None (Some y) h p q = (h, q y refl)
+next_trigger f (Some x) (Some y) h p q = cond_both _ (Some (Sell, y)) (Some (Buy, x)) (λ m. IsNext? (trigger_event m) f) (λ _. (h, q y refl)) (λ _. (h, p x refl))
 
-fits_with : (f : MatchState) (m : Option Order) → f.incoming ≡ m → IsNext? (next_given m f) f
-fits_with f (Some o) h = fits_meets o (first_order (opposite o.side) f.queues) f h refl
-fits_with f None h =
-    fits_sooner f (if_ripe Buy f.session.last_price (first_stop Buy f.queues)) (if_ripe Sell f.session.last_price (first_stop Sell f.queues)) h
-    (λ x e. if_ripe_is Buy f.session.last_price (first_stop Buy f.queues) x e)
-    (λ y e. if_ripe_is Sell f.session.last_price (first_stop Sell f.queues) y e)
+next_with : (f : MatchState) (m : Option Order) → f.incoming ≡ m → IsNext? (next_given m f) f
+next_with f (Some o) h = next_incoming o (first_order (opposite o.side) f.queues) f h refl
+next_with f None h =
+    next_trigger f (if_ripe Buy f.session.last_price (first_stop Buy f.queues)) (if_ripe Sell f.session.last_price (first_stop Sell f.queues)) h
+    (λ x e. ripe_is_first Buy f.session.last_price (first_stop Buy f.queues) x e)
+    (λ y e. ripe_is_first Sell f.session.last_price (first_stop Sell f.queues) y e)
 
-pub fits_next : (f : MatchState) → IsNext? (next_event f) f
-fits_next f = fits_with f f.incoming refl
+pub is_next : (e : Event) (f : MatchState) → next_event f ≡ Some e → IsNext e f
+is_next e f n = rw n at (next_with f f.incoming refl)
 
 incoming_weight_most : (lots : ℕ) (o : Order) → lots ≤ o.open_lots → incoming_weight (incoming_left lots o) ≤ 17
 incoming_weight_most lots o h = incoming_left_cases lots o (λ m. incoming_weight m ≤ 17) h (λ _. omega arith) (λ _. omega arith)
@@ -101,22 +110,22 @@ trade_spends s stamp o r q e =
     let h = incoming_weight_none n o (omega arith) in
     omega arith)
 
-in_incoming_is : (m : Option Order) (o : Order) → m ≡ Some o → incoming_weight m ≡ 17
-in_incoming_is m o e = ap incoming_weight e
+incoming_weight_is : (m : Option Order) (o : Order) → m ≡ Some o → incoming_weight m ≡ 17
+incoming_weight_is m o e = ap incoming_weight e
 
--- each event spends one of the weight
-pub spends : (e : Event) (f : MatchState) → IsNext e f → suc (weight (apply e f)) ≤ weight f
-spends (accepts o) f h = absurd h
-spends (accepts_stop x) f h = absurd h
-spends (accepts_and_cancels c o) f h = absurd h
-spends (accepts_unmatched n k) f h = absurd h
-spends (cancels_resting c n i r) f h = absurd h
-spends (amends i o) f h = absurd h
-spends (requeues s i o) f h = absurd h
-spends (cancels_incoming c o) f h = omega (arith, in_incoming_is f.incoming o h)
-spends (trades o r) f h = omega (arith, in_incoming_is f.incoming o h.0, trade_spends (opposite o.side) f.session.next_stamp o r f.queues h.1)
-spends (rests o) f h = omega (arith, in_incoming_is f.incoming o h, load_placed o f.queues, parts_most o)
-spends (triggers s x) f h = let z : incoming_weight f.incoming ≡ 0 = ap incoming_weight h.0 in omega (arith, load_triggered s x f.queues h.1)
+-- each event that is next spends one of the weight
+next_spends : (e : Event) (f : MatchState) → IsNext e f → suc (weight (apply e f)) ≤ weight f
+next_spends (accepts o) f h = absurd h
+next_spends (accepts_stop x) f h = absurd h
+next_spends (accepts_and_cancels c o) f h = absurd h
+next_spends (accepts_unmatched n k) f h = absurd h
+next_spends (cancels_resting c n i r) f h = absurd h
+next_spends (amends i o) f h = absurd h
+next_spends (requeues s i o) f h = absurd h
+next_spends (cancels_incoming c o) f h = omega (arith, incoming_weight_is f.incoming o h.0)
+next_spends (trades o r) f h = omega (arith, incoming_weight_is f.incoming o h.0, trade_spends (opposite o.side) f.session.next_stamp o r f.queues h.1)
+next_spends (rests o) f h = omega (arith, incoming_weight_is f.incoming o h.0, load_placed o f.queues, parts_most o)
+next_spends (triggers s x) f h = let z : incoming_weight f.incoming ≡ 0 = ap incoming_weight h.0 in omega (arith, load_triggered s x f.queues h.1)
 
 pub run_events_next : (k : ℕ) (f : MatchState) (m : Option Event) → next_event f ≡ m → run_events (suc k) f ≡ go_on_with m (λ e. run_events k (apply e f)) f
 unfolding run_events
@@ -127,7 +136,7 @@ unfolding run_events
 run_events_zero f = refl
 
 pub weight_falls : (e : Event) (f : MatchState) → next_event f ≡ Some e → suc (weight (apply e f)) ≤ weight f
-weight_falls e f n = spends e f (rw n at (fits_next f))
+weight_falls e f n = next_spends e f (is_next e f n)
 
 -- fuel beyond the weight changes nothing
 run_events_same : (k j : ℕ) (f : MatchState) → weight f ≤ k → weight f ≤ j → run_events k f ≡ run_events j f
