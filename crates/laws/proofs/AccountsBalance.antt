@@ -4,7 +4,6 @@ use Rattle.std.proofs.lemmas.Bool.{cond-true, eqb-true, eqb-false, eq-eqb, ne_eq
 use Rattle.orders.specs.declared.order.Order.{Order}
 use Rattle.orders.specs.declared.row.OrderRow.{OrderRow}
 use Rattle.orders.specs.Lots.{order_reduced, order_refilled}
-use Rattle.books.specs.declared.queue.Queue.TheVariants.{Orders, Stops}
 use Rattle.books.specs.Model.{Queues}
 use Rattle.tapes.specs.declared.line.Line.{Line}
 use Rattle.matching.specs.Model.{MatchState, Event, accepts, accepts_stop, accepts_and_cancels, accepts_unmatched, cancels_incoming, trades, rests, triggers, cancels_resting, amends, requeues, RestingOutcome, filled, refilled, reduced, outcome, incoming_left, trade_lots, apply}
@@ -114,35 +113,28 @@ balance (accepts o) f h k n = omega (arith, newcomer o f n h k)
 balance (accepts_stop x) f h k n = omega (arith, newcomer x.order f n h.arrives k)
 balance (accepts_and_cancels c o) f h k n = omega (arith, newcomer o f n h k)
 balance (accepts_unmatched m lots) f h k n = omega (arith, new_number m n lots (quantity_of n (tape f)) (λ e. k.unborn n (omega (arith, h.1))))
-balance (cancels_incoming c o) f h k n = omega arith
 balance (trades o r) f h k n = omega (arith, held_open n (trade_lots o r) o (omega arith), outcome_open n (trade_lots o r) f.session.next_stamp r (omega arith))
-balance (rests o) f h k n = omega arith
 balance (triggers s x) f h k n =
     let z : (order_refilled f.session.next_stamp 0 x.order).open_lots ≡ x.order.open_lots - 0 = ap (λ (r : OrderRow). r.open_lots) (refilled_row f.session.next_stamp 0 x.order (omega arith)) in
     let y : open_of n (order_refilled f.session.next_stamp 0 x.order) ≡ open_of n x.order = ap (counting n x.order.number)
     (let u : (order_refilled f.session.next_stamp 0 x.order).open_lots ≡ x.order.open_lots = omega arith in u) in
     omega arith
-balance (cancels_resting c (Orders s) i r) f h k n = omega arith
-balance (cancels_resting c (Stops s) i r) f h k n = omega arith
 balance (amends i o) f h k n = omega (arith, amended_is i o f h (lots_of n), replaced (amends i o) f h k h.0.was (amended_is i o f h) o h.0.changes n)
 balance (requeues s i o) f h k n = omega (arith, requeued_is s i o f h (lots_of n), replaced (requeues s i o) f h k h.0.was (requeued_is s i o f h) o h.0.changes n)
+balance _ f h k n = omega arith
 
 unborn_apply : (e : Event) (f : MatchState) → MayApply e f → Counts f → (n : ℕ) → f.session.next_stamp + event_stamps e ≤ n → quantity_of n (event_lines e ++ tape f) ≡ 0
 unborn_apply (accepts o) f h k n l = rw (ne_eqb o.number n (λ e. omega (arith, h.new, e))) (k.unborn n (omega arith))
 unborn_apply (accepts_stop x) f h k n l = rw (ne_eqb x.order.number n (λ e. omega (arith, h.arrives.new, e))) (k.unborn n (omega arith))
 unborn_apply (accepts_and_cancels c o) f h k n l = rw (ne_eqb o.number n (λ e. omega (arith, h.new, e))) (k.unborn n (omega arith))
 unborn_apply (accepts_unmatched m lots) f h k n l = rw (ne_eqb m n (λ e. omega (arith, h.1, e))) (k.unborn n (omega arith))
-unborn_apply (cancels_incoming c o) f h k n l = k.unborn n (omega arith)
-unborn_apply (trades o r) f h k n l = k.unborn n (omega arith)
-unborn_apply (rests o) f h k n l = k.unborn n (omega arith)
-unborn_apply (triggers s x) f h k n l = k.unborn n (omega arith)
-unborn_apply (cancels_resting c m i r) f h k n l = k.unborn n (omega arith)
 unborn_apply (amends i o) f h k n l =
     let b = was_born (amends i o) f h k h.0.was (amended_is i o f h) in
     rw (ne_eqb o.number n (λ e. omega (arith, h.0.changes.number, e))) (k.unborn n (omega arith))
 unborn_apply (requeues s i o) f h k n l =
     let b = was_born (requeues s i o) f h k h.0.was (requeued_is s i o f h) in
     rw (ne_eqb o.number n (λ e. omega (arith, h.0.changes.number, e))) (k.unborn n (omega arith))
+unborn_apply _ f h k n l = k.unborn n (omega arith)
 
 -- numbers after a trade are the numbers before
 one_held : (n lots : ℕ) (o : Order) → lots ≤ o.open_lots → of_incoming (one_of n incoming) (incoming_left lots o) ≤ one_of n incoming o
@@ -162,16 +154,11 @@ single_new m n f h k = by_number m n (λ b. (cond b 1 0 ≤ 0) ⊎ (everywhere (
 single_coming : (e : Event) (f : MatchState) → MayApply e f → Counts f → (n : ℕ) → Few n e f
 single_coming (accepts o) f h k n = single_new o.number n f h.new k
 single_coming (accepts_stop x) f h k n = single_new x.order.number n f h.arrives.new k
-single_coming (accepts_and_cancels c o) f h k n = inl (omega arith)
-single_coming (accepts_unmatched m lots) f h k n = inl (omega arith)
-single_coming (cancels_incoming c o) f h k n = inl (omega arith)
 single_coming (trades o r) f h k n = inl (omega (arith, one_held n (trade_lots o r) o (omega arith), one_outcome n (trade_lots o r) f.session.next_stamp (outcome (trade_lots o r) r) r))
-single_coming (rests o) f h k n = inl (omega arith)
-single_coming (triggers s x) f h k n = inl (omega arith)
-single_coming (cancels_resting c m i r) f h k n = inl (omega arith)
 single_coming (amends i o) f h k n = inl (let z : one_of n stands o ≡ one_of n stands h.0.was = ap (λ m. counting n m 1) h.0.changes.number in omega (arith, amended_is i o f h (one_of n)))
 single_coming (requeues s i o) f h k n = inl (let z : one_of n incoming o ≡ one_of n stands h.0.was = ap (λ m. counting n m 1)
     h.0.changes.number in omega (arith, requeued_is s i o f h (one_of n)))
+single_coming _ f h k n = inl (omega arith)
 
 -- what is not known after a line A or R of number m either was not known or has that number
 abbrev unknown_after : (m lots : ℕ) → List Line → Measure

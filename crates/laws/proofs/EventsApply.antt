@@ -92,10 +92,6 @@ of_outcome w refilled lots stamp r = w (order_refilled stamp lots r)
 of_outcome w reduced lots stamp r = w (order_reduced lots r)
 
 abbrev pub measure_gone : Event → MatchState → Measure → ℕ
-measure_gone (accepts o) f g = 0
-measure_gone (accepts_stop x) f g = 0
-measure_gone (accepts_and_cancels c o) f g = 0
-measure_gone (accepts_unmatched n k) f g = 0
 measure_gone (cancels_incoming c o) f g = g incoming o
 measure_gone (trades o r) f g = g incoming o + g stands r
 measure_gone (rests o) f g = g incoming o
@@ -103,33 +99,26 @@ measure_gone (triggers s x) f g = g waits x.order
 measure_gone (cancels_resting c n i r) f g = g (status n) (order_of_record r)
 measure_gone (amends i o) f g = of_incoming (g stands) (slice_get (at o.side f.queues.stands) i)
 measure_gone (requeues s i o) f g = of_incoming (g stands) (slice_get (at s f.queues.stands) i)
+measure_gone _ f g = 0
 
 abbrev pub measure_come : Event → MatchState → Measure → ℕ
 measure_come (accepts o) f g = g incoming o
 measure_come (accepts_stop x) f g = g waits x.order
-measure_come (accepts_and_cancels c o) f g = 0
-measure_come (accepts_unmatched n k) f g = 0
-measure_come (cancels_incoming c o) f g = 0
 measure_come (trades o r) f g = of_incoming (g incoming) (incoming_left (trade_lots o r) o) + of_outcome (g stands) (outcome (trade_lots o r) r) (trade_lots o r) f.session.next_stamp r
 measure_come (rests o) f g = g stands o
 measure_come (triggers s x) f g = g incoming (order_refilled f.session.next_stamp 0 x.order)
-measure_come (cancels_resting c n i r) f g = 0
 measure_come (amends i o) f g = g stands o
 measure_come (requeues s i o) f g = g incoming o
+measure_come _ f g = 0
 
 -- the queues and the hand without what goes
 abbrev pub untouched_queues : Event → MatchState → Queues
-untouched_queues (accepts o) f = f.queues
-untouched_queues (accepts_stop x) f = f.queues
-untouched_queues (accepts_and_cancels c o) f = f.queues
-untouched_queues (accepts_unmatched n k) f = f.queues
-untouched_queues (cancels_incoming c o) f = f.queues
 untouched_queues (trades o r) f = taken (Orders (opposite o.side)) 0 f.queues
-untouched_queues (rests o) f = f.queues
 untouched_queues (triggers s x) f = taken (Stops s) 0 f.queues
 untouched_queues (cancels_resting c n i r) f = taken n i f.queues
 untouched_queues (amends i o) f = taken (Orders o.side) i f.queues
 untouched_queues (requeues s i o) f = taken (Orders s) i f.queues
+untouched_queues _ f = f.queues
 
 -- with any event nothing else is incoming
 abbrev pub measure_resting : Measure → Event → MatchState → ℕ
@@ -149,8 +138,8 @@ module _ (g : Measure) where
   -- what an event takes up
   pub taken_up : (e : Event) (f : MatchState) → MayApply e f → measure_resting g e f + measure_gone e f g ≡ everywhere g f
   taken_up (accepts o) f h = omega (arith, none_incoming f h.idle)
-  taken_up (accepts_stop x) f h = omega (arith, none_incoming f h.arrives.idle)
   taken_up (accepts_and_cancels c o) f h = omega (arith, none_incoming f h.idle)
+  taken_up (accepts_stop x) f h = omega (arith, none_incoming f h.arrives.idle)
   taken_up (accepts_unmatched n k) f h = omega (arith, none_incoming f h.0)
   taken_up (cancels_incoming c o) f h = omega (arith, incoming_measure f o h)
   taken_up (trades o r) f h = omega (arith, incoming_measure f o h.is_incoming, queued_cut g (opposite o.side) 0 r f.queues h.first)
@@ -238,11 +227,7 @@ queued_outcome g reduced lots stamp r q e = queued_set g 0 r (order_reduced lots
 
 -- what an event puts down
 pub put_down : (g : Measure) (e : Event) (f : MatchState) → MayApply e f → ConsistentQueues f.queues → Single f → everywhere g (apply e f) ≡ measure_resting g e f + measure_come e f g
-put_down g (accepts o) f h k s = omega arith
 put_down g (accepts_stop x) f h k s = omega (arith, queued_stop_put g x f.queues)
-put_down g (accepts_and_cancels c o) f h k s = omega arith
-put_down g (accepts_unmatched n m) f h k s = omega arith
-put_down g (cancels_incoming c o) f h k s = omega arith
 put_down g (trades o r) f h k s =
     let m : RestingOutcome = outcome (trade_lots o r) r in
     let a : queued g (after_trade m (opposite o.side) (trade_lots o r) f.session.next_stamp r f.queues) ≡ queued g
@@ -252,14 +237,13 @@ put_down g (trades o r) f h k s =
     (λ (z : Side). queued g (taken (Orders z) 0 f.queues)) (rest_side o r f h k).0 in
     omega arith
 put_down g (rests o) f h k s = omega (arith, queued_put g o f.queues)
-put_down g (triggers z x) f h k s = omega arith
 put_down g (cancels_resting c n i r) f h k s = let m : of_incoming (g incoming) f.incoming ≡ 0 = ap (of_incoming (g incoming)) h.0 in omega arith
 put_down g (amends i o) f h k s =
     let m : of_incoming (g incoming) f.incoming ≡ 0 = ap (of_incoming (g incoming)) h.0.idle in
     let a : queued g (rewritten i (Standing o) f.queues) ≡ queued g (record_set i (Standing o) f.queues) = ap (queued g)
     (rewrites i h.0.was o f.queues h.0.there (sym (same_order_rank h.0.was o h.1))) in
     omega (arith, queued_set g i h.0.was o f.queues h.0.there)
-put_down g (requeues z i o) f h k s = omega arith
+put_down g _ f h k s = omega arith
 
 -- each event leaves good queues
 
@@ -284,11 +268,7 @@ Ready None = Unit {0}
 Ready (Some o) = Low o.price × Shows o
 
 pub queues_apply : (e : Event) (f : MatchState) → MayApply e f → ConsistentQueues f.queues → Single f → Ready f.incoming → ConsistentQueues (apply e f).queues
-queues_apply (accepts o) f h g s l = g
 queues_apply (accepts_stop x) f h g s l = queues_stop_put x f.queues h.room_left h.arrives.low h.low g
-queues_apply (accepts_and_cancels c o) f h g s l = g
-queues_apply (accepts_unmatched n m) f h g s l = g
-queues_apply (cancels_incoming c o) f h g s l = g
 queues_apply (trades o r) f h g s l = subst ConsistentQueues (sym (after_trade_trade o r f h g s)) (queues_outcome (outcome (trade_lots o r) r) (trade_lots o r) f.session.next_stamp r f.queues (own_first o r f h g) g)
 queues_apply (rests o) f h g s l = queues_put o f.queues h.room_left (subst Ready h.is_incoming l).0 (clear_beyond o o.side f.queues.stands h.beyond) g
 queues_apply (triggers z x) f h g s l = queues_stop_cut z 0 x f.queues h.1 g
@@ -298,19 +278,16 @@ queues_apply (amends i o) f h g s l =
     let p = h.1 in
     subst ConsistentQueues (sym (rewrites i x o f.queues h.0.there (sym (same_order_rank x o p)))) (queues_set i x o f.queues h.0.there p g)
 queues_apply (requeues z i o) f h g s l = queues_cut z i h.0.was f.queues h.0.there g
+queues_apply _ f h g s l = g
 
 held_ready : (lots : ℕ) (o : Order) → lots ≤ o.open_lots → Low o.price → Ready (incoming_left lots o)
 held_ready lots o n h = incoming_left_cases lots o Ready n (λ _. tt) (λ more. (h, refilled_shows o.turn lots o more))
 
 pub ready_apply : (e : Event) (f : MatchState) → MayApply e f → ConsistentQueues f.queues → Ready f.incoming → Ready (apply e f).incoming
 ready_apply (accepts o) f h g l = (h.low, h.shows)
-ready_apply (accepts_stop x) f h g l = tt
-ready_apply (accepts_and_cancels c o) f h g l = tt
-ready_apply (accepts_unmatched n m) f h g l = tt
-ready_apply (cancels_incoming c o) f h g l = tt
 ready_apply (trades o r) f h g l = held_ready (trade_lots o r) o (omega arith) (subst Ready h.is_incoming l).0
-ready_apply (rests o) f h g l = tt
 ready_apply (triggers z x) f h g l = ((all_nth (StopSided z) (at z f.queues.waits) 0 x h.1 (g.stops_sided z)).1, refilled_shows f.session.next_stamp 0 x.order (omega arith))
 ready_apply (cancels_resting c n i r) f h g l = l
 ready_apply (amends i o) f h g l = l
 ready_apply (requeues z i o) f h g l = (h.0.changes.low, h.1)
+ready_apply _ f h g l = tt

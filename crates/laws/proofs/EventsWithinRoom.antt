@@ -13,11 +13,11 @@ use Rattle.books.specs.declared.queue.Record.TheVariants.{Standing, Waiting}
 use Rattle.books.specs.declared.queue.PutError.TheVariants.{Full, Twice}
 use Rattle.books.specs.Model.{Queues, at, count, capacity, queue_of, number_of, put_answer, taken, PutAnswer}
 use Rattle.tapes.specs.declared.cause.Cause.{Cause}
-use Rattle.tapes.specs.declared.cause.Cause.TheVariants.{NewOrder as WasRequested, Leftover, ShortReach, OwnInvestor, NotPut, NoOpposite, DayClosed}
+use Rattle.tapes.specs.declared.cause.Cause.TheVariants.{ShortReach, NotPut}
 use Rattle.matching.specs.declared.new_order.OrderType.{OrderType}
 use Rattle.matching.specs.declared.new_order.OrderType.TheVariants.{Limit, Market, StopLimit}
 use Rattle.matching.specs.declared.new_order.NewOrder.{NewOrder}
-use Rattle.matching.specs.Model.{MatchState, Event, accepts, accepts_stop, accepts_and_cancels, accepts_unmatched, cancels_incoming, trades, rests, triggers, cancels_resting, amends, requeues, RestingOutcome, filled, refilled, reduced, outcome, trade_lots, apply}
+use Rattle.matching.specs.Model.{MatchState, Event, accepts, accepts_and_cancels, cancels_incoming, trades, rests, triggers, RestingOutcome, refilled, outcome, trade_lots, apply}
 use Rattle.matching.specs.Running.{next_event, first_order, run_events, weight, run_to_rest}
 use Rattle.matching.specs.Entering.{entered_order, falls_short, accepts_or_cancels, entered_stop, accepts_stop_or_cancels, market_arrival, arrival_as, arrival}
 use Rattle.matching.proofs.OutcomeCases.{outcome_cases}
@@ -59,32 +59,20 @@ well_trade o r f h g s =
     (go (outcome (trade_lots o r) r) (subst (λ (z : Side). slice_get (at z f.queues.stands) 0 ≡ Some r) (sym d) h.first))
   where
     go : (k : RestingOutcome) → slice_get (at r.side f.queues.stands) 0 ≡ Some r → outcome_put k (trade_lots o r) f.session.next_stamp r (taken (Orders r.side) 0 f.queues)
-    go filled e = tt
     go refilled e = put_back_done r (order_refilled f.session.next_stamp (trade_lots o r) r) f refl refl e g s
-    go reduced e = tt
+    go _ e = tt
 
 refused_is_full : (c : Cause) (o : Order) (f : MatchState) → f.incoming ≡ Some o → Single f → IfRefused c o f.queues → PutDone (cancels_incoming c o) f
 refused_is_full NotPut o f h s (Full, e) = e
 refused_is_full NotPut o f h s (Twice, e) = absurd (never_twice (Standing o) f.queues (incoming_alone f o h s) e)
-refused_is_full WasRequested o f h s r = tt
-refused_is_full Leftover o f h s r = tt
-refused_is_full ShortReach o f h s r = tt
-refused_is_full OwnInvestor o f h s r = tt
-refused_is_full NoOpposite o f h s r = tt
-refused_is_full DayClosed o f h s r = tt
+refused_is_full _ o f h s r = tt
 
 next_put_done : (e : Event) (f : MatchState) → IsNext e f → Consistent f → PutDone e f
 next_put_done (cancels_incoming c o) f h s = refused_is_full c o f h.0 s.counts.single h.1
 next_put_done (trades o r) f h s = well_trade o r f (next_may_apply (trades o r) f h s.queues).0 s.queues s.counts.single
 next_put_done (rests o) f h s = h.1
 next_put_done (triggers z x) f h s = tt
-next_put_done (accepts o) f h s = absurd h
-next_put_done (accepts_stop x) f h s = absurd h
-next_put_done (accepts_and_cancels c o) f h s = absurd h
-next_put_done (accepts_unmatched n k) f h s = absurd h
-next_put_done (cancels_resting c n i r) f h s = absurd h
-next_put_done (amends i o) f h s = absurd h
-next_put_done (requeues z i o) f h s = absurd h
+next_put_done _ f h s = absurd h
 
 -- bounds
 
@@ -94,22 +82,14 @@ outcome_within lots stamp r h = outcome_cases lots r (λ k. outcome_in_bounds k 
     (λ less. in_bounds_from (with_lots r.turn (r.open_lots - lots) (r.shown - lots) r) (reduced_fits lots r less))
 
 pub bounds_kept : (e : Event) (f : MatchState) → EventInBounds e f
-bounds_kept (accepts o) f = tt
-bounds_kept (accepts_stop x) f = tt
-bounds_kept (accepts_and_cancels c o) f = tt
-bounds_kept (accepts_unmatched n k) f = tt
-bounds_kept (cancels_incoming c o) f = tt
 bounds_kept (trades o r) f = (
   (λ h. in_bounds_from (with_lots o.turn (o.open_lots - trade_lots o r) (showing o.disclosed (o.open_lots - trade_lots o r)) o)
       (refilled_fits o.turn (trade_lots o r) o h)),
   outcome_within (trade_lots o r) f.session.next_stamp r (omega arith),
 )
-bounds_kept (rests o) f = tt
 bounds_kept (triggers s x) f = in_bounds_from (with_lots f.session.next_stamp (x.order.open_lots - 0) (showing x.order.disclosed (x.order.open_lots - 0)) x.order)
     (refilled_fits f.session.next_stamp 0 x.order (omega arith))
-bounds_kept (cancels_resting c n i r) f = tt
-bounds_kept (amends i o) f = tt
-bounds_kept (requeues s i o) f = tt
+bounds_kept _ f = tt
 
 pub within_room : (e : Event) (f : MatchState) → Roomy e f → PutDone e f → WithinRoom e f
 within_room e f r p = record { lines_written = tape_is e f r; stamps_drawn = stamp_is e f r; put_done = p; in_bounds = bounds_kept e f }

@@ -9,7 +9,7 @@ use Rattle.tapes.specs.Logs.{Log, line_added}
 use Rattle.matching.specs.declared.session.Session.{Session}
 use Rattle.matching.specs.Sessions.{stamp_after}
 use Rattle.laws.specs.WithinRoom.{event_lines, outcome_stamps, event_stamps}
-use Rattle.matching.specs.Model.{MatchState, Event, accepts, accepts_stop, accepts_and_cancels, accepts_unmatched, cancels_incoming, trades, rests, triggers, cancels_resting, amends, requeues, RestingOutcome, filled, refilled, reduced, outcome, trade_lots, session_after_trade, apply, line_A, line_R, line_S, line_C, line_T}
+use Rattle.matching.specs.Model.{MatchState, Event, accepts, accepts_stop, accepts_and_cancels, accepts_unmatched, cancels_incoming, trades, rests, triggers, cancels_resting, amends, requeues, RestingOutcome, refilled, outcome, trade_lots, session_after_trade, apply, line_A, line_R, line_S, line_C, line_T}
 
 abbrev pub tape : MatchState → List Line
 tape f = f.tape.lines
@@ -44,32 +44,17 @@ one_stamp : (n : ℕ) → n < 1000000000 → stamp_after n ≡ n + 1
 one_stamp n h = cond-true (ltb n 1000000000) (n + 1) n (lt-ltb n 1000000000 h)
 
 drawn_is : (k : RestingOutcome) (c : Session) → (1 ≤ outcome_stamps k → c.next_stamp < 1000000000) → (session_after_trade k c).next_stamp ≡ c.next_stamp + outcome_stamps k
-drawn_is filled c h = omega arith
 drawn_is refilled c h = one_stamp c.next_stamp (h (omega arith))
-drawn_is reduced c h = omega arith
+drawn_is _ c h = omega arith
 
 pub stamp_is : (e : Event) (f : MatchState) → Roomy e f → (apply e f).session.next_stamp ≡ f.session.next_stamp + event_stamps e
-stamp_is (accepts o) f h = one_stamp f.session.next_stamp (h.free_stamps (omega arith))
-stamp_is (accepts_stop x) f h = one_stamp f.session.next_stamp (h.free_stamps (omega arith))
-stamp_is (accepts_and_cancels c o) f h = one_stamp f.session.next_stamp (h.free_stamps (omega arith))
-stamp_is (accepts_unmatched n k) f h = one_stamp f.session.next_stamp (h.free_stamps (omega arith))
 stamp_is (cancels_incoming c o) f h = omega arith
 stamp_is (trades o r) f h = drawn_is (outcome (trade_lots o r) r) f.session h.free_stamps
 stamp_is (rests o) f h = omega arith
-stamp_is (triggers s x) f h = one_stamp f.session.next_stamp (h.free_stamps (omega arith))
 stamp_is (cancels_resting c n i r) f h = omega arith
 stamp_is (amends i o) f h = omega arith
-stamp_is (requeues s i o) f h = one_stamp f.session.next_stamp (h.free_stamps (omega arith))
+stamp_is _ f h = one_stamp f.session.next_stamp (h.free_stamps (omega arith))
 
 pub limit_is : (e : Event) (f : MatchState) → (apply e f).tape.limit ≡ f.tape.limit
 limit_is (accepts o) f = refl
-limit_is (accepts_stop x) f = refl
-limit_is (accepts_and_cancels c o) f = refl
-limit_is (accepts_unmatched n k) f = refl
-limit_is (cancels_incoming c o) f = refl
-limit_is (trades o r) f = refl
-limit_is (rests o) f = refl
-limit_is (triggers s x) f = refl
-limit_is (cancels_resting c n i r) f = refl
-limit_is (amends i o) f = refl
-limit_is (requeues s i o) f = refl
+limit_is _ f = refl

@@ -2,7 +2,7 @@
 use Rattle.std.proofs.Common.{◌≡◌, List, [], ◌∷◌, ◌++◌, Some, None, Option, sym, refl, ap, ◌∙◌, subst, append_assoc}
 use Rattle.orders.specs.declared.order.Order.{Order}
 use Rattle.tapes.specs.declared.line.Line.{Line}
-use Rattle.matching.specs.Model.{MatchState, Event, accepts, accepts_stop, accepts_and_cancels, accepts_unmatched, cancels_incoming, trades, rests, triggers, cancels_resting, amends, requeues, apply}
+use Rattle.matching.specs.Model.{MatchState, Event, cancels_incoming, trades, rests, triggers, apply}
 use Rattle.matching.specs.Running.{run_to_rest}
 use Rattle.laws.specs.Tally.{Tally, Request, incoming_rested, note, noted}
 use Rattle.laws.specs.Fair.{FairLines}
@@ -38,13 +38,7 @@ tell_next q (trades o x) f n r s t w =
     (with_agrees (apply (trades o x) f) (noted q (event_lines (trades o x)) t) (agrees_trades o x f n.0 s t r m), (tt, fair_trades o x f n.0 s t m))
 tell_next q (rests o) f n r s t w = (agrees_rests o f n.0 s t (with_some f t o n.0.is_incoming w), tt)
 tell_next q (triggers z x) f n r s t w = (agrees_triggers z x f n.0 s r (incoming_rested t) (with_none f t n.0.0 w), (tt, tt))
-tell_next q (accepts o) f n r s t w = absurd n.1
-tell_next q (accepts_stop x) f n r s t w = absurd n.1
-tell_next q (accepts_and_cancels c o) f n r s t w = absurd n.1
-tell_next q (accepts_unmatched a b) f n r s t w = absurd n.1
-tell_next q (cancels_resting c a i b) f n r s t w = absurd n.1
-tell_next q (amends i o) f n r s t w = absurd n.1
-tell_next q (requeues z i o) f n r s t w = absurd n.1
+tell_next q _ f n r s t w = absurd n.1
 
 -- a way from one match state to another, told by its lines
 pub record Tells (q : Request) (t : Tally) (f g : MatchState) : Type 0 where

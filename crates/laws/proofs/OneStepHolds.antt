@@ -1,7 +1,7 @@
 -- What one more step keeps, from what holds of every run.
 use Rattle.std.proofs.Common.{◌≡◌, Ok, sym, subst}
 use Rattle.forms.specs.declared.form.Form.{Form}
-use Rattle.forms.specs.declared.form.Form.TheVariants.{Entry, Change, Cancel, MassCancel, Closing, Opening}
+use Rattle.forms.specs.declared.form.Form.TheVariants.{Entry}
 use Rattle.matching.specs.declared.new_order.NewOrder.{NewOrder}
 use Rattle.matching.specs.Running.{total}
 use Rattle.validation.specs.Entries.{validate_entry}
@@ -21,8 +21,4 @@ pub filled_by : (form : Form) (s : State) → StepFilled form s
 filled_by (Entry form) s = λ day stamp q limit forms e.
     subst (λ (s : State). (a : NewOrder) → validate_entry form ≡ Ok a → answer (Entry form) s ≡ Ok tt → Filled a (total (traded_lots (session_of s.day).next_stamp) (step (Entry form) s).tape.lines)) (sym e)
     (λ a h k. always_filled day stamp q limit forms form a h k)
-filled_by (Change form) s = tt
-filled_by (Cancel form) s = tt
-filled_by (MassCancel form) s = tt
-filled_by Closing s = tt
-filled_by (Opening form) s = tt
+filled_by _ s = tt

@@ -16,7 +16,7 @@ use Rattle.tapes.specs.declared.cause.Cause.TheVariants.{ShortReach}
 use Rattle.matching.specs.declared.new_order.OrderType.{OrderType}
 use Rattle.matching.specs.declared.new_order.OrderType.TheVariants.{Limit, Market, StopLimit}
 use Rattle.matching.specs.declared.new_order.NewOrder.{NewOrder}
-use Rattle.matching.specs.Model.{MatchState, Event, accepts, accepts_stop, accepts_and_cancels, accepts_unmatched, cancels_incoming, trades, rests, triggers, cancels_resting, amends, requeues, apply}
+use Rattle.matching.specs.Model.{MatchState, Event, accepts, accepts_stop, accepts_and_cancels, accepts_unmatched, requeues, apply}
 use Rattle.matching.specs.Running.{total, parts, queues_weight, weight, first_order}
 use Rattle.matching.specs.Entering.{entered_order, falls_short, accepts_or_cancels, entered_stop, accepts_stop_or_cancels, market_arrival, arrival_as, arrival}
 use Rattle.matching.proofs.PartsFall.{parts_most}
@@ -57,13 +57,8 @@ Begins (accepts o) = Unit {0}
 Begins (accepts_stop x) = Unit {0}
 Begins (accepts_and_cancels c o) = Unit {0}
 Begins (accepts_unmatched n k) = Unit {0}
-Begins (cancels_incoming c o) = ⊥
-Begins (trades o r) = ⊥
-Begins (rests o) = ⊥
-Begins (triggers s x) = ⊥
-Begins (cancels_resting c n i r) = ⊥
-Begins (amends i o) = ⊥
 Begins (requeues s i o) = Unit {0}
+Begins _ = ⊥
 
 pub record Grows (e : Event) (f : MatchState) : Type 0 where
   pub by_lines : weight (apply e f) + length (event_lines e) ≤ queues_weight f.queues + 20
@@ -82,12 +77,7 @@ grows (accepts_unmatched n k) f b h = record { by_lines = omega arith; by_stamps
 grows (requeues s i o) f b h =
     let z = load_cut s i h.0.was f.queues h.0.there in
     record { by_lines = omega arith; by_stamps = omega arith; few_lines = omega arith; few_stamps = omega arith }
-grows (cancels_incoming c o) f b h = absurd b
-grows (trades o r) f b h = absurd b
-grows (rests o) f b h = absurd b
-grows (triggers s x) f b h = absurd b
-grows (cancels_resting c n i r) f b h = absurd b
-grows (amends i o) f b h = absurd b
+grows _ f b h = absurd b
 
 pub roomy_begin : (e : Event) (f : MatchState) → Begins e → MayApply e f → Supplied f → Roomy e f
 roomy_begin e f b h s = let g = grows e f b h in record { free_lines = omega (arith, s.free_lines, g.few_lines); free_stamps = λ _. omega (arith, s.free_stamps) }

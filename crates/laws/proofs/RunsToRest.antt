@@ -14,7 +14,7 @@ use Rattle.books.specs.declared.queue.Record.{Record}
 use Rattle.books.specs.declared.queue.Record.TheVariants.{Standing, Waiting}
 use Rattle.books.specs.declared.queue.PutError.TheVariants.{Full, Twice}
 use Rattle.books.specs.Model.{Queues, at, rank_of, stop_rank_of, count, capacity, queue_of, number_of, found, standing_order, waiting_stop, put_answer, PutAnswer}
-use Rattle.matching.specs.Model.{MatchState, Event, accepts, accepts_stop, accepts_and_cancels, accepts_unmatched, cancels_incoming, trades, rests, triggers, cancels_resting, amends, requeues, RestingOutcome, filled, refilled, reduced, outcome, trade_lots, apply}
+use Rattle.matching.specs.Model.{MatchState, Event, cancels_incoming, trades, rests, triggers, RestingOutcome, filled, refilled, reduced, outcome, trade_lots, apply}
 use Rattle.matching.specs.Running.{next_event, next_given, first_order, first_stop, ripe, if_ripe, lower_turn, trigger_event, run_events, weight, run_to_rest}
 use Rattle.matching.proofs.WeightFalls.{NoMatch, IsNext, is_next, run_events_next, run_events_zero, weight_falls}
 use Rattle.laws.specs.Quiescence.{Unripe}
@@ -45,17 +45,11 @@ consistent_apply e f h r s = record {
 
 -- the events that follow by themselves
 abbrev pub Follows : Event → Type 0
-Follows (accepts o) = ⊥
-Follows (accepts_stop x) = ⊥
-Follows (accepts_and_cancels c o) = ⊥
-Follows (accepts_unmatched n k) = ⊥
 Follows (cancels_incoming c o) = Unit {0}
 Follows (trades o r) = Unit {0}
 Follows (rests o) = Unit {0}
 Follows (triggers s x) = Unit {0}
-Follows (cancels_resting c n i r) = ⊥
-Follows (amends i o) = ⊥
-Follows (requeues s i o) = ⊥
+Follows _ = ⊥
 
 outcome_draws_one : (k : RestingOutcome) → outcome_stamps k ≤ 1
 outcome_draws_one filled = omega arith
@@ -64,17 +58,11 @@ outcome_draws_one reduced = omega arith
 
 -- such an event writes one line at most, and draws one stamp at most
 one_line_each : (e : Event) → Follows e → (length (event_lines e) ≤ 1) × (event_stamps e ≤ 1)
-one_line_each (accepts o) i = absurd i
-one_line_each (accepts_stop x) i = absurd i
-one_line_each (accepts_and_cancels c o) i = absurd i
-one_line_each (accepts_unmatched n k) i = absurd i
 one_line_each (cancels_incoming c o) i = (omega arith, omega arith)
 one_line_each (trades o r) i = (omega arith, outcome_draws_one (outcome (trade_lots o r) r))
 one_line_each (rests o) i = (omega arith, omega arith)
 one_line_each (triggers s x) i = (omega arith, omega arith)
-one_line_each (cancels_resting c n i r) h = absurd h
-one_line_each (amends i o) h = absurd h
-one_line_each (requeues s i o) h = absurd h
+one_line_each _ i = absurd i
 
 abbrev pub Next : Event → MatchState → Type 0
 Next e f = MayApply e f × Follows e
@@ -117,13 +105,7 @@ next_may_apply (rests o) f h g =
     let s : Side = opposite o.side in
     (record { is_incoming = h.0; beyond = beyond_all o (at s f.queues.stands) (g.sorted s) (g.sided s) h.2; room_left = done_room (Standing o) f.queues h.1 }, tt)
 next_may_apply (triggers s x) f h g = ((h.0, first_stop_is s f.queues x h.1), tt)
-next_may_apply (accepts o) f h g = absurd h
-next_may_apply (accepts_stop x) f h g = absurd h
-next_may_apply (accepts_and_cancels c o) f h g = absurd h
-next_may_apply (accepts_unmatched n k) f h g = absurd h
-next_may_apply (cancels_resting c n i r) f h g = absurd h
-next_may_apply (amends i o) f h g = absurd h
-next_may_apply (requeues s i o) f h g = absurd h
+next_may_apply _ f h g = absurd h
 
 -- from one match state to another by such events, each with room for its line and its stamp
 pub data Leads : MatchState → MatchState → Type 0 where

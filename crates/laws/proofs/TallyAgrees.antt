@@ -25,8 +25,7 @@ use Rattle.laws.proofs.RunsToRest.{Consistent}
 -- an order as the tally has it: only an order that stands shows lots
 abbrev pub shown_at : Status → ℕ → ℕ
 shown_at stands n = n
-shown_at waits n = 0
-shown_at incoming n = 0
+shown_at _ n = 0
 
 abbrev pub as_seen : Status → OrderRow → OrderRow
 as_seen p r = row_with r.turn r.open_lots (shown_at p r.shown) r
@@ -256,17 +255,15 @@ abbrev up : Account → Option Account
 up a = Some (rested a.status a.order)
 
 abbrev on_its_way : Measure
-on_its_way stands o = 0
-on_its_way waits o = 0
 on_its_way incoming o = 1
+on_its_way _ o = 0
 
 none_on_way : (q : Queues) → over on_its_way q None ≡ 0
 none_on_way q = omega (arith, total_none q.stands.buy, total_none q.stands.sell, total_none q.waits.buy, total_none q.waits.sell)
 
 rests_so : (p : Status) (o : Order) → on_its_way p o ≡ 0 → up (account p (seen p o)) ≡ Some (account p (seen p o))
-rests_so stands o z = refl
-rests_so waits o z = refl
 rests_so incoming o z = absurd (omega arith)
+rests_so _ o z = refl
 
 pub agrees_rests : (o : Order) (f : MatchState) → MayApply (rests o) f → Consistent f → (t : Tally) → TallyAgrees t f → TallyAgrees (incoming_rested t) (apply (rests o) f)
 agrees_rests o f fit s t m =

@@ -17,7 +17,7 @@ use Rattle.books.specs.declared.queue.Record.TheVariants.{Standing}
 use Rattle.books.specs.Model.{Queues, at, rank_of, standing_order, taken}
 use Rattle.tapes.specs.declared.cause.Cause.TheVariants.{OwnInvestor}
 use Rattle.tapes.specs.declared.line.Line.{Line}
-use Rattle.matching.specs.Model.{MatchState, Event, accepts, accepts_stop, accepts_and_cancels, accepts_unmatched, cancels_incoming, trades, rests, triggers, cancels_resting, amends, requeues, filled, refilled, reduced, outcome, trade_lots, apply}
+use Rattle.matching.specs.Model.{MatchState, Event, cancels_incoming, trades, rests, triggers, filled, refilled, reduced, outcome, trade_lots, apply}
 use Rattle.matching.specs.Running.{total, next_event, next_given, leftover, incoming_event, run_events, incoming_weight, weight, run_to_rest}
 use Rattle.matching.specs.Reach.{own, own_price, counts, counted_open_lots, shown_ahead, reach_by, reach}
 use Rattle.matching.proofs.WeightFalls.{run_events_next, weight_falls}
@@ -54,13 +54,7 @@ same_quantity n (cancels_incoming c o) l i = refl
 same_quantity n (trades o r) l i = refl
 same_quantity n (rests o) l i = refl
 same_quantity n (triggers s x) l i = refl
-same_quantity n (accepts o) l i = absurd i
-same_quantity n (accepts_stop x) l i = absurd i
-same_quantity n (accepts_and_cancels c o) l i = absurd i
-same_quantity n (accepts_unmatched m k) l i = absurd i
-same_quantity n (cancels_resting c m i r) l h = absurd h
-same_quantity n (amends i o) l h = absurd h
-same_quantity n (requeues s i o) l h = absurd h
+same_quantity n _ l i = absurd i
 
 pub leads_quantity : (n : ℕ) {f h : MatchState} → Leads f h → quantity_of n (tape h) ≡ quantity_of n (tape f)
 leads_quantity n at_end = refl

@@ -3,7 +3,7 @@ use Rattle.std.proofs.Common.{◌≡◌, ℕ, ◌+◌, ◌<◌, ◌≤◌, cond,
 use Rattle.std.proofs.lemmas.Bool.{cond_both, cond-true, ltb-true, lt-ltb}
 use Rattle.orders.specs.declared.order.Order.{Order}
 use Rattle.orders.specs.Lots.{order_reduced, order_refilled}
-use Rattle.matching.specs.Model.{MatchState, Event, accepts, accepts_stop, accepts_and_cancels, accepts_unmatched, cancels_incoming, trades, rests, triggers, cancels_resting, amends, requeues, RestingOutcome, filled, refilled, reduced, outcome, incoming_left, trade_lots, apply}
+use Rattle.matching.specs.Model.{MatchState, Event, accepts, accepts_stop, trades, rests, triggers, amends, requeues, RestingOutcome, filled, refilled, reduced, outcome, incoming_left, trade_lots, apply}
 use Rattle.matching.proofs.OutcomeCases.{incoming_left_cases}
 use Rattle.laws.specs.Tally.{Status, stands, waits, incoming}
 use Rattle.laws.specs.WithinRoom.{event_stamps, outcome_stamps}
@@ -40,20 +40,17 @@ outcome_early reduced lots stamp r h = early (stamp + 0) stands (order_reduced l
 coming_early : (e : Event) (f : MatchState) → MayApply e f → measure_gone e f (late f.session.next_stamp) ≡ 0 → measure_come e f (late (f.session.next_stamp + event_stamps e)) ≡ 0
 coming_early (accepts o) f h g = early (f.session.next_stamp + 1) incoming o (omega (arith, h.turn))
 coming_early (accepts_stop x) f h g = early (f.session.next_stamp + 1) waits x.order (omega (arith, h.arrives.turn))
-coming_early (accepts_and_cancels c o) f h g = refl
-coming_early (accepts_unmatched n k) f h g = refl
-coming_early (cancels_incoming c o) f h g = refl
 coming_early (trades o r) f h g =
     let a = is_early f.session.next_stamp incoming o (omega arith) in
     let b = is_early f.session.next_stamp stands r (omega arith) in
     omega (arith, held_early (f.session.next_stamp + outcome_stamps (outcome (trade_lots o r) r)) (trade_lots o r) o (omega arith) (omega arith), outcome_early (outcome (trade_lots o r) r) (trade_lots o r) f.session.next_stamp r b)
 coming_early (rests o) f h g = early (f.session.next_stamp + 0) stands o (omega (arith, is_early f.session.next_stamp incoming o g))
 coming_early (triggers s x) f h g = early (f.session.next_stamp + 1) incoming (order_refilled f.session.next_stamp 0 x.order) (omega arith)
-coming_early (cancels_resting c n i r) f h g = refl
 coming_early (amends i o) f h g =
     let z : measure_gone (amends i o) f (late f.session.next_stamp) ≡ late f.session.next_stamp stands h.0.was = ap (of_incoming (late f.session.next_stamp stands)) h.0.there in
     early (f.session.next_stamp + 0) stands o (omega (arith, is_early f.session.next_stamp stands h.0.was (omega arith), h.1.turn))
 coming_early (requeues s i o) f h g = early (f.session.next_stamp + 1) incoming o (omega (arith, h.2))
+coming_early _ f h g = refl
 
 pub early_apply : (e : Event) (f : MatchState) → MayApply e f → Roomy e f → ConsistentQueues f.queues → Single f → everywhere (late f.session.next_stamp) f ≡ 0 →
     everywhere (late (apply e f).session.next_stamp) (apply e f) ≡ 0

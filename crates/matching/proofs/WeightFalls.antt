@@ -115,17 +115,11 @@ incoming_weight_is m o e = ap incoming_weight e
 
 -- each event that is next spends one of the weight
 next_spends : (e : Event) (f : MatchState) → IsNext e f → suc (weight (apply e f)) ≤ weight f
-next_spends (accepts o) f h = absurd h
-next_spends (accepts_stop x) f h = absurd h
-next_spends (accepts_and_cancels c o) f h = absurd h
-next_spends (accepts_unmatched n k) f h = absurd h
-next_spends (cancels_resting c n i r) f h = absurd h
-next_spends (amends i o) f h = absurd h
-next_spends (requeues s i o) f h = absurd h
 next_spends (cancels_incoming c o) f h = omega (arith, incoming_weight_is f.incoming o h.0)
 next_spends (trades o r) f h = omega (arith, incoming_weight_is f.incoming o h.0, trade_spends (opposite o.side) f.session.next_stamp o r f.queues h.1)
 next_spends (rests o) f h = omega (arith, incoming_weight_is f.incoming o h.0, load_placed o f.queues, parts_most o)
 next_spends (triggers s x) f h = let z : incoming_weight f.incoming ≡ 0 = ap incoming_weight h.0 in omega (arith, load_triggered s x f.queues h.1)
+next_spends _ f h = absurd h
 
 pub run_events_next : (k : ℕ) (f : MatchState) (m : Option Event) → next_event f ≡ m → run_events (suc k) f ≡ go_on_with m (λ e. run_events k (apply e f)) f
 unfolding run_events
