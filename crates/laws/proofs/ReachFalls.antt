@@ -1,7 +1,7 @@
 -- Reach falls by what is traded, and ends where trading ends.
-use Rattle.std.proofs.Common.{◌≡◌, ℕ, zero, suc, ◌+◌, ◌-◌, ◌<◌, ◌≤◌, Bool, true, false, cond, eqb, ◌⊎◌, List, [], ◌∷◌, Some, None, Option, sym, refl, ap, ◌∙◌, subst, inl, inr, ⊎_elim, arith}
+use Rattle.std.proofs.Common.{◌≡◌, ℕ, zero, suc, ◌+◌, ◌-◌, ◌<◌, ◌≤◌, Bool, true, false, cond, not, eqb, ◌⊎◌, List, [], ◌∷◌, Some, None, Option, sym, refl, ap, ◌∙◌, subst, inl, inr, ⊎_elim, arith}
 use Rattle.std.specs.List.{AllByRecursion}
-use Rattle.std.proofs.lemmas.Bool.{cond_both, cond-true, cond-false, and_left, and_right, eqb-true, eqb-false, eq-eqb, lt-ltb, cases_eq, and_from}
+use Rattle.std.proofs.lemmas.Bool.{cond_both, cond-true, cond-false, and_left, and_right, eqb-true, eqb-false, eq-eqb, lt-ltb, cases_eq, and_from, not-true, not-false}
 use Rattle.std.proofs.lemmas.Bool.Decides.{nat_tests}
 use Rattle.orders.specs.declared.side.Side.{Side}
 use Rattle.orders.specs.declared.side.Side.TheVariants.{Buy, Sell}
@@ -229,14 +229,15 @@ pub reach_endless : (k turn : ℕ) (o : Order) (l : List Order) → Sorted rank_
 reach_endless zero turn o l h d t m = no_parts o l m
 reach_endless (suc k) turn o [] h d t m = refl
 reach_endless (suc k) turn o (r ∷ l) h d t m =
-    cond_both (within_limit o.side o.price r.price) (cond (same_investor o r) 0 (r.shown + unlimited_trade k (suc turn) o (front_traded turn r l))) 0 (λ n. reach o (r ∷ l) ≡ n)
-    (λ w. cond_both (same_investor o r) 0 (r.shown + unlimited_trade k (suc turn) o (front_traded turn r l)) (λ n. reach o (r ∷ l) ≡ n)
+    cond_both (not (within_limit o.side o.price r.price)) 0 (cond (same_investor o r) 0 (r.shown + unlimited_trade k (suc turn) o (front_traded turn r l))) (λ n. reach o (r ∷ l) ≡ n)
+    (λ e. reach_beyond o (r ∷ l) (beyond_first o.side o.price r l h d (not-true (within_limit o.side o.price r.price) e)))
+    (λ e. let w = not-false (within_limit o.side o.price r.price) e in
+    cond_both (same_investor o r) 0 (r.shown + unlimited_trade k (suc turn) o (front_traded turn r l)) (λ n. reach o (r ∷ l) ≡ n)
     (λ i. reach_own o r l (and_from (same_investor o r) (within_limit o.side o.price r.price) i w) h d)
     (λ i. let a = reach_front_traded o r l turn w i h d t.1 in
     let b = reach_endless k (suc turn) o (front_traded turn r l) (front_traded_sorted (eqb r.open_lots r.shown)) (front_traded_sided (eqb r.open_lots r.shown))
     (front_traded_early (eqb r.open_lots r.shown)) (omega (arith, front_traded_parts turn r l)) in
     omega arith))
-    (λ w. reach_beyond o (r ∷ l) (beyond_first o.side o.price r l h d w))
   where
     front_traded_sorted : (b : Bool) → Sorted rank_of (cond b l (put_by_rank rank_of (order_refilled turn r.shown r) l))
     front_traded_sorted true = h.1

@@ -17,9 +17,9 @@ use Rattle.laws.specs.Fair.{Fair}
 abbrev pub at_20 : Price
 at_20 = record { hundredths = 2000 }
 
--- 100 lots at 20,00, all open and shown, under its number as turn
-abbrev pub plain : ℕ → Side → OrderRow
-plain number side = record {
+-- 100 lots at 20,00, all open and shown, with its number as turn
+abbrev pub plain_order : ℕ → Side → OrderRow
+plain_order number side = record {
   number = number;
   turn = number;
   firm = 1;
@@ -36,8 +36,8 @@ plain number side = record {
 }
 
 -- nothing stands and nothing waits
-abbrev pub nobody : Queues
-nobody = record {
+abbrev pub empty_queues : Queues
+empty_queues = record {
   stands = record { buy = []; sell = [] };
   waits = record { buy = []; sell = [] };
   standing_capacity = record { buy = 32; sell = 32 };
@@ -46,20 +46,28 @@ nobody = record {
 
 -- 100 lots entered, 99 cancelled, none left
 abbrev pub LostLot : Type 0
-LostLot = Balanced (Cancelled 1 (Some at_20) 99 Requested ∷ Accepted 1 (Some at_20) 100 ∷ []) nobody → ⊥
+LostLot =
+    Balanced (Cancelled 1 (Some at_20) 99 Requested ∷ Accepted 1 (Some at_20) 100 ∷ []) empty_queues
+    → ⊥
 
--- 100 lots entered, traded once, and still open
+-- 100 lots entered, all traded, and still open
 abbrev pub DoubledLots : Type 0
-DoubledLots = Balanced (Traded 2 1 at_20 100 ∷ Accepted 1 (Some at_20) 100 ∷ []) (record {
-  stands = record { buy = []; sell = order_of (plain 1 Sell) ∷ [] };
-  waits = record { buy = []; sell = [] };
-  standing_capacity = record { buy = 32; sell = 32 };
-  waiting_capacity = record { buy = 32; sell = 32 };
-}) → ⊥
+DoubledLots =
+    Balanced (Traded 2 1 at_20 100 ∷ Accepted 1 (Some at_20) 100 ∷ [])
+    (record empty_queues {
+      stands = record { buy = []; sell = order_of (plain_order 1 Sell) ∷ [] };
+    })
+    → ⊥
 
--- two offers stand, a buy order comes in
+-- two offers stand, a buy order is incoming
 abbrev pub two_offers : Tally
-two_offers = record { accounts = account incoming (plain 3 Buy) ∷ account stands (plain 1 Sell) ∷ account stands (plain 2 Sell) ∷ []; turn = 4 }
+two_offers = record {
+  accounts = account incoming (plain_order 3 Buy)
+      ∷ account stands (plain_order 1 Sell)
+      ∷ account stands (plain_order 2 Sell)
+      ∷ [];
+  turn = 4;
+}
 
 -- it may not trade with the second
 abbrev pub OutOfTurn : Type 0
@@ -75,17 +83,25 @@ UnknownOrderTrades = Fair 3 7 at_20 two_offers → ⊥
 
 -- a bid stands at the price of an offer
 abbrev pub Crossed : Type 0
-Crossed = Uncrossed (record { buy = order_of (plain 1 Buy) ∷ []; sell = order_of (plain 2 Sell) ∷ [] }) → ⊥
+Crossed =
+    Uncrossed
+    (record {
+      buy = order_of (plain_order 1 Buy) ∷ [];
+      sell = order_of (plain_order 2 Sell) ∷ [];
+    }) → ⊥
 
 -- a buy stop waits at the last price
 abbrev pub Ripe : Type 0
-Ripe = Unripe (Some at_20) (record {
-  stands = record { buy = []; sell = [] };
-  waits = record { buy = record { order = order_of (plain 1 Buy); trigger = at_20 } ∷ []; sell = [] };
-  standing_capacity = record { buy = 32; sell = 32 };
-  waiting_capacity = record { buy = 32; sell = 32 };
-}) → ⊥
+Ripe =
+    Unripe (Some at_20)
+    (record empty_queues {
+      waits = record {
+        buy = record { order = order_of (plain_order 1 Buy); trigger = at_20 } ∷ [];
+        sell = [];
+      };
+    }) → ⊥
 
+-- each law, broken
 pub record Counterexamples : Type 0 where
   pub lost_lot : LostLot
   pub doubled_lots : DoubledLots

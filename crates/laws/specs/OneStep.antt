@@ -1,8 +1,8 @@
--- What one more step keeps besides the laws, whatever setting and steps led to this state.
+-- What one more step keeps besides the laws, whatever setting up and steps led to this state.
 use Rattle.std.specs.Prelude.{◌≡◌, ℕ, List, Ok}
 use Rattle.books.specs.Model.{Queues}
 use Rattle.forms.specs.declared.form.Form.{Form}
-use Rattle.forms.specs.declared.form.Form.TheVariants.{Entry, Change, Cancel, MassCancel, Closing, Opening}
+use Rattle.forms.specs.declared.form.Form.TheVariants.{Entry}
 use Rattle.matching.specs.declared.new_order.NewOrder.{NewOrder}
 use Rattle.matching.specs.Running.{total}
 use Rattle.validation.specs.Entries.{validate_entry}
@@ -12,17 +12,19 @@ use Rattle.laws.specs.Runs.{session_of, after}
 use Rattle.laws.specs.WithinRoom.{Trace, state_between_steps}
 use Rattle.laws.specs.Reaching.{Filled}
 
--- nothing runs out and nothing is lost inside the step
+-- neither lines nor stamps run out within the step, and every put is taken
 abbrev pub StepWithinRoom : Form → State → Type 0
-StepWithinRoom form s = (day stamp : ℕ) (q : Queues) (limit : ℕ) (forms : List Form) → s ≡ after forms (set_up day stamp q limit) → Trace (state_between_steps s) (state_between_steps (step form s))
+StepWithinRoom form state =
+    (day stamp : ℕ) (q : Queues) (limit : ℕ) (forms : List Form) →
+    state ≡ after forms (set_up day stamp q limit) →
+    Trace (state_between_steps state) (state_between_steps (step form state))
 
--- an accepted entry that wants all, or a minimum, trades that or nothing
+-- an accepted entry that wants all, or a minimum, trades that or nothing (rules 8)
 abbrev pub StepFilled : Form → State → Type 0
-StepFilled (Entry form) s =
-    (day stamp : ℕ) (q : Queues) (limit : ℕ) (forms : List Form) → s ≡ after forms (set_up day stamp q limit) →
-    (a : NewOrder) → validate_entry form ≡ Ok a → answer (Entry form) s ≡ Ok tt → Filled a (total (traded_lots (session_of s.day).next_stamp) (step (Entry form) s).tape.lines)
-StepFilled (Change form) s = Unit {0}
-StepFilled (Cancel form) s = Unit {0}
-StepFilled (MassCancel form) s = Unit {0}
-StepFilled Closing s = Unit {0}
-StepFilled (Opening form) s = Unit {0}
+StepFilled (Entry form) state =
+    (day stamp : ℕ) (q : Queues) (limit : ℕ) (forms : List Form) →
+    state ≡ after forms (set_up day stamp q limit) →
+    (asked : NewOrder) → validate_entry form ≡ Ok asked → answer (Entry form) state ≡ Ok tt →
+    Filled asked
+    (total (traded_lots (session_of state.day).next_stamp) (step (Entry form) state).tape.lines)
+StepFilled _ state = Unit {0}

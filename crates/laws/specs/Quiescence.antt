@@ -9,10 +9,15 @@ use Rattle.orders.specs.Prices.{level}
 use Rattle.books.specs.Model.{Both, Queues, at}
 use Rattle.matching.specs.Running.{ripe}
 
--- every standing bid is priced below every standing offer
+-- every standing bid is priced below every standing offer (rules 10)
 abbrev pub Uncrossed : Both (List Order) → Type 0
-Uncrossed b = AllByRecursion (λ (bid : Order). AllByRecursion (λ (offer : Order). level bid.price < level offer.price) b.sell) b.buy
+Uncrossed standing =
+    AllByRecursion
+    (λ (bid : Order).
+    AllByRecursion (λ (offer : Order). level bid.price < level offer.price) standing.sell)
+    standing.buy
 
--- no waiting stop is ripe at the last price
+-- no waiting stop is ripe at the last price (rules 12)
 abbrev pub Unripe : Option Price → Queues → Type 0
-Unripe last q = (s : Side) → AllByRecursion (λ (x : Stop). ripe s last x.trigger ≡ false) (at s q.waits)
+Unripe last queues = (side : Side) →
+    AllByRecursion (λ (stop : Stop). ripe side last stop.trigger ≡ false) (at side queues.waits)

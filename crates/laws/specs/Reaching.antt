@@ -1,5 +1,6 @@
--- What reach means: the lots that an order of that side, limit and investor, and without end, would trade at once.
-use Rattle.std.specs.Prelude.{◌≡◌, ℕ, zero, suc, ◌+◌, ◌≤◌, true, cond, ◌⊎◌, List, [], ◌∷◌, Ok, ◌==◌}
+-- What reach means (rules 9): the lots that an order of that side, limit and investor would trade
+-- at once, if it had no end of lots.
+use Rattle.std.specs.Prelude.{◌≡◌, ℕ, zero, suc, ◌+◌, ◌≤◌, true, if◌then◌else◌, not, ◌⊎◌, List, [], ◌∷◌, Ok, ◌==◌}
 use Rattle.orders.specs.declared.order.Order.{Order}
 use Rattle.orders.specs.Sides.{opposite}
 use Rattle.orders.specs.Lots.{order_refilled, within_limit, same_investor}
@@ -17,31 +18,50 @@ use Rattle.venue.specs.Days.{State, set_up, answer, step}
 use Rattle.laws.specs.Accounts.{traded_lots}
 use Rattle.laws.specs.Runs.{session_of, after}
 
--- a queue when all that its first order shows is traded: the order leaves, or shows again behind its price under a new turn
+-- a queue when all that its first order shows is traded: the order leaves, or is refilled behind
+-- its price under a new turn (rules 10)
 abbrev pub front_traded : (turn : ℕ) → Order → List Order → List Order
-front_traded turn r l = cond (r.open_lots == r.shown) l (put_by_rank rank_of (order_refilled turn r.shown r) l)
+front_traded turn first behind =
+    if first.open_lots == first.shown
+    then behind
+    else put_by_rank rank_of (order_refilled turn first.shown first) behind
 
--- an order without end trades on while the first opposite order is within the limit and of another investor
+-- an order without end trades on while the first opposite order is within the limit and of another
+-- investor (rules 10)
 abbrev pub unlimited_trade : (trades turn : ℕ) → Order → List Order → ℕ
-unlimited_trade zero turn o l = 0
-unlimited_trade (suc k) turn o [] = 0
-unlimited_trade (suc k) turn o (r ∷ l) = cond (within_limit o.side o.price r.price) (cond (same_investor o r) 0 (r.shown + unlimited_trade k (suc turn) o (front_traded turn r l))) 0
+unlimited_trade zero turn order opposites = 0
+unlimited_trade (suc trades) turn order [] = 0
+unlimited_trade (suc trades) turn order (first ∷ behind) =
+    if not (within_limit order.side order.price first.price)
+    then 0
+    else if same_investor order first
+    then 0
+    else first.shown + unlimited_trade trades (suc turn) order (front_traded turn first behind)
 
--- in every state of a run, for every order, as soon as each part that an opposite order shows can trade once
+-- in every state of a run, for every order, with trades enough for each part that an opposite order
+-- shows
 abbrev pub ReachMeans : Type 0
 ReachMeans =
-    (day stamp : ℕ) (q : Queues) (limit : ℕ) (forms : List Form) (o : Order) (trades : ℕ) →
-    (let s : State = after forms (set_up day stamp q limit) in
-    total parts (at (opposite o.side) s.queues.stands) ≤ trades →
-    reach o (at (opposite o.side) s.queues.stands) ≡ unlimited_trade trades (session_of s.day).next_stamp o (at (opposite o.side) s.queues.stands))
+    (day stamp : ℕ) (q : Queues) (limit : ℕ) (forms : List Form) (order : Order) (trades : ℕ) →
+    (let state : State = after forms (set_up day stamp q limit) in
+    let opposites : List Order = at (opposite order.side) state.queues.stands in
+    total parts opposites ≤ trades →
+    reach order opposites
+    ≡ unlimited_trade trades (session_of state.day).next_stamp order opposites)
 
--- so an entry that wants all trades whole or not at all, and one with a minimum trades at least that or not at all
+-- so an entry that wants all trades whole or not at all, and one with a minimum trades at least
+-- that or not at all (rules 8)
 abbrev pub Filled : NewOrder → (lots : ℕ) → Type 0
-Filled a lots = (all_or_none a.validity ≡ true → (lots ≡ 0) ⊎ (lots ≡ a.quantity)) × ((lots ≡ 0) ⊎ (a.minimum ≤ lots))
+Filled asked lots =
+    (all_or_none asked.validity ≡ true → (lots ≡ 0) ⊎ (lots ≡ asked.quantity))
+    × ((lots ≡ 0) ⊎ (asked.minimum ≤ lots))
 
 -- an accepted entry draws the next stamp for its number; its lots on the trade lines of its step
 abbrev pub AlwaysFilled : Type 0
 AlwaysFilled =
-    (day stamp : ℕ) (q : Queues) (limit : ℕ) (forms : List Form) (form : EntryForm) (a : NewOrder) →
-    (let s : State = after forms (set_up day stamp q limit) in
-    validate_entry form ≡ Ok a → answer (Entry form) s ≡ Ok tt → Filled a (total (traded_lots (session_of s.day).next_stamp) (step (Entry form) s).tape.lines))
+    (day stamp : ℕ) (q : Queues) (limit : ℕ) (forms : List Form) (form : EntryForm)
+    (asked : NewOrder) →
+    (let state : State = after forms (set_up day stamp q limit) in
+    validate_entry form ≡ Ok asked → answer (Entry form) state ≡ Ok tt →
+    Filled asked
+    (total (traded_lots (session_of state.day).next_stamp) (step (Entry form) state).tape.lines))

@@ -1,10 +1,11 @@
--- A tally of the orders, kept from what accepted steps were asked and from the lines that they wrote, and from nothing else.
---   account     an order of the tally and where it is: it stands, waits or is incoming
---   turn        the next turn of the tally's own rising count
---   note        what a line of the tape does to the tally
---   at_ease     the tally when the incoming order, if any, has come to stand
+-- A tally of the orders: kept from what accepted steps were asked and from the lines that they
+-- wrote, and from nothing else.
+--   account           an order of the tally, and where it is: it stands, waits or is incoming
+--   turn              the next turn, which the tally counts for itself
+--   note              what a line of the tape does to the tally (rules 16)
+--   incoming_rested   the tally when the incoming order, if any, has come to stand
 -- An order that does not stand shows no lots.
-use Rattle.std.specs.Prelude.{ℕ, ◌+◌, ◌-◌, min, Bool, true, false, cond, not, ◌&&◌, ◌||◌, List, [], ◌∷◌, Some, None, Option, ◌==◌, nat_lt}
+use Rattle.std.specs.Prelude.{ℕ, ◌+◌, ◌-◌, min, Bool, true, false, if◌then◌else◌, not, ◌&&◌, ◌||◌, List, [], ◌∷◌, Some, None, Option, ◌==◌, nat_lt}
 use Rattle.std.specs.Option.{unwrap_or}
 use Rattle.orders.specs.declared.side.Side.{Side}
 use Rattle.orders.specs.declared.price.Price.{Price}
@@ -21,6 +22,7 @@ use Rattle.matching.specs.declared.amendment.Amendment.{Amendment}
 use Rattle.matching.specs.Running.{total}
 use Rattle.matching.specs.Reach.{better}
 
+-- where an order is (rules 1)
 pub data Status : Type 0 where
   stands waits incoming : Status
 
@@ -33,211 +35,227 @@ pub record Tally : Type 0 where
   pub turn : ℕ
 
 abbrev pub account : Status → OrderRow → Account
-account p r = record { status = p; order = r }
+account status order = record { status = status; order = order }
 
+-- no orders, and the first turn
 abbrev pub starting : ℕ → Tally
 starting turn = record { accounts = []; turn = turn }
 
--- what a step was asked, as far as the tally needs it
+-- what a step was asked, as far as the tally needs it: an entry, a change, or removals
 pub data Request : Type 0 where
   entry : NewOrder → Request
   change : Amendment → Request
   removal : Request
 
--- each account gives way to another, or goes
+-- each account gives way to another, or leaves
 
 abbrev pub account_if : Option Account → List Account → List Account
-account_if None l = l
-account_if (Some a) l = a ∷ l
+account_if None accounts = accounts
+account_if (Some first) accounts = first ∷ accounts
 
 abbrev pub adjust : (Account → Option Account) → List Account → List Account
-adjust h [] = []
-adjust h (a ∷ l) = account_if (h a) (adjust h l)
+adjust adjusted [] = []
+adjust adjusted (first ∷ accounts) = account_if (adjusted first) (adjust adjusted accounts)
 
 abbrev pub only : Bool → Option Account → Account → Option Account
-only b m a = cond b m (Some a)
+only named adjusted unnamed = if named then adjusted else Some unnamed
 
 abbrev pub numbered : ℕ → Account → Bool
-numbered n a = a.order.number == n
+numbered number existing = existing.order.number == number
 
 -- an order under a turn, with other open and shown lots
 abbrev pub row_with : (turn open_lots shown : ℕ) → OrderRow → OrderRow
-row_with turn open_lots shown r = record {
-  number = r.number;
-  turn = turn;
-  firm = r.firm;
-  client = r.client;
-  side = r.side;
-  price = r.price;
-  quantity = r.quantity;
-  open_lots = open_lots;
-  shown = shown;
-  disclosed = r.disclosed;
-  validity = r.validity;
-  investor = r.investor;
-  tag = r.tag;
-}
+row_with turn open_lots shown order =
+    record order { turn = turn; open_lots = open_lots; shown = shown }
 
--- who stands
+-- the orders that stand
 
 abbrev pub standing : Status → Bool
 standing stands = true
-standing waits = false
-standing incoming = false
+standing _ = false
 
 abbrev pub stands_on : Side → Status → OrderRow → Bool
-stands_on s p r = standing p && same_side r.side s
+stands_on side status order = standing status && same_side order.side side
 
--- the first price that stands on a side
+-- the best price that stands on a side (rules 4)
 abbrev pub better_of : Side → Price → Option Price → Price
-better_of s p None = p
-better_of s p (Some q) = cond (better s q p) q p
+better_of side price None = price
+better_of side price (Some other) = if better side other price then other else price
 
 abbrev pub first_price : Side → List Account → Option Price
-first_price s [] = None
-first_price s (a ∷ l) = cond (stands_on s a.status a.order) (Some (better_of s a.order.price (first_price s l))) (first_price s l)
+first_price side [] = None
+first_price side (first ∷ accounts) =
+    if stands_on side first.status first.order
+    then Some (better_of side first.order.price (first_price side accounts))
+    else first_price side accounts
 
--- lots come off the open and the shown ones; without open lots an order leaves, and where it stands and its shown lots ran out it shows again under a new turn
+-- lots come off the open and the shown ones; without open lots an order leaves, and where it stands
+-- and its shown lots ran out it is refilled (rules 10)
 
 abbrev pub row_refilled : ℕ → OrderRow → OrderRow
-row_refilled turn r = row_with turn r.open_lots (showing r.disclosed r.open_lots) r
+row_refilled turn order =
+    row_with turn order.open_lots (showing order.disclosed order.open_lots) order
 
 abbrev pub lots_off : ℕ → OrderRow → OrderRow
-lots_off lots r = row_with r.turn (r.open_lots - lots) (r.shown - lots) r
+lots_off lots order = row_with order.turn (order.open_lots - lots) (order.shown - lots) order
 
 abbrev pub shown_ran_out : Status → OrderRow → Bool
-shown_ran_out p r = standing p && (not (r.open_lots == 0) && r.shown == 0)
+shown_ran_out status order = standing status && (not (order.open_lots == 0) && order.shown == 0)
 
 abbrev pub refilled_if : Bool → ℕ → OrderRow → OrderRow
-refilled_if true turn r = row_refilled turn r
-refilled_if false turn r = r
+refilled_if ran_out turn order = if ran_out then row_refilled turn order else order
 
 abbrev pub if_open : Status → ℕ → OrderRow → Option Account
-if_open p turn r = cond (r.open_lots == 0) None (Some (account p (refilled_if (shown_ran_out p r) turn r)))
+if_open status turn order =
+    if order.open_lots == 0
+    then None
+    else Some (account status (refilled_if (shown_ran_out status order) turn order))
 
 abbrev pub take_off : (lots turn : ℕ) → Account → Option Account
-take_off lots turn a = if_open a.status turn (lots_off lots a.order)
+take_off lots turn existing = if_open existing.status turn (lots_off lots existing.order)
 
 -- how many turns that draws
-abbrev pub draws : ℕ → Account → ℕ
-draws lots a = cond (shown_ran_out a.status (lots_off lots a.order)) 1 0
+abbrev pub turns_drawn : ℕ → Account → ℕ
+turns_drawn lots existing =
+    if shown_ran_out existing.status (lots_off lots existing.order) then 1 else 0
 
--- the incoming order stands, and shows what it may
+-- the incoming order comes to stand, and shows what it may (rules 3, 11)
 abbrev pub rested : Status → OrderRow → Account
-rested stands r = account stands r
-rested waits r = account waits r
-rested incoming r = account stands (row_refilled r.turn r)
+rested incoming order = account stands (row_refilled order.turn order)
+rested status order = account status order
 
 abbrev pub incoming_rested : Tally → Tally
-incoming_rested t = record { accounts = adjust (λ a. Some (rested a.status a.order)) t.accounts; turn = t.turn }
+incoming_rested tally =
+    record tally { accounts = adjust (λ a. Some (rested a.status a.order)) tally.accounts }
 
--- line A: the entry's order, wholly open
+-- line A: the entry's order, wholly open (rules 8)
 
+-- the price of a line without one (rules 2)
 abbrev pub price_of_none : Price
 price_of_none = record { hundredths = 0 }
 
+-- a market order has the first opposite price as its limit
 abbrev pub limit_as : OrderType → Side → List Account → Price
-limit_as (Limit price) s l = price
-limit_as Market s l = unwrap_or (first_price (opposite s) l) price_of_none
-limit_as (StopLimit limit trigger) s l = limit
+limit_as (Limit price) side accounts = price
+limit_as Market side accounts = unwrap_or (first_price (opposite side) accounts) price_of_none
+limit_as (StopLimit limit trigger) side accounts = limit
 
 abbrev pub status_as : OrderType → Status
-status_as (Limit price) = incoming
-status_as Market = incoming
 status_as (StopLimit limit trigger) = waits
+status_as _ = incoming
 
 abbrev pub entered_account_row : NewOrder → Price → (number turn : ℕ) → OrderRow
-entered_account_row a price number turn = record {
+entered_account_row asked price number turn = record {
   number = number;
   turn = turn;
-  firm = a.firm;
-  client = a.client;
-  side = a.side;
+  firm = asked.firm;
+  client = asked.client;
+  side = asked.side;
   price = price;
-  quantity = a.quantity;
-  open_lots = a.quantity;
+  quantity = asked.quantity;
+  open_lots = asked.quantity;
   shown = 0;
-  disclosed = a.disclosed;
-  validity = a.validity;
-  investor = a.investor;
-  tag = a.tag;
+  disclosed = asked.disclosed;
+  validity = asked.validity;
+  investor = asked.investor;
+  tag = asked.tag;
 }
 
 abbrev pub note_entry : Request → ℕ → Tally → Tally
-note_entry (entry a) n t = record {
-  accounts = account (status_as a.order_type) (entered_account_row a (limit_as a.order_type a.side t.accounts) n t.turn) ∷ t.accounts;
-  turn = t.turn + 1;
+note_entry (entry asked) number tally = record {
+  accounts = account (status_as asked.order_type)
+      (entered_account_row asked (limit_as asked.order_type asked.side tally.accounts) number
+      tally.turn)
+      ∷ tally.accounts;
+  turn = tally.turn + 1;
 }
-note_entry (change c) n t = t
-note_entry removal n t = t
+note_entry _ number tally = tally
 
--- line R: the order as changed; the new quantity counts the lots already traded
+-- line R: the order as changed; the new quantity counts the lots already traded (rules 13)
 
 abbrev pub costs_turn : Amendment → OrderRow → Bool
-costs_turn c r =
-    not (same_price (unwrap_or c.price r.price) r.price)
-    || (nat_lt r.quantity (unwrap_or c.quantity r.quantity) || not (unwrap_or c.disclosed r.disclosed == r.disclosed))
+costs_turn asked order =
+    not (same_price (unwrap_or asked.price order.price) order.price)
+    || (nat_lt order.quantity (unwrap_or asked.quantity order.quantity)
+    || not (unwrap_or asked.disclosed order.disclosed == order.disclosed))
 
 abbrev pub open_then : Amendment → OrderRow → ℕ
-open_then c r = unwrap_or c.quantity r.quantity - (r.quantity - r.open_lots)
+open_then asked order = unwrap_or asked.quantity order.quantity - (order.quantity - order.open_lots)
 
 abbrev pub changed_row : Amendment → (turn shown : ℕ) → OrderRow → OrderRow
-changed_row c turn shown r = record {
-  number = r.number;
+changed_row asked turn shown order = record order {
   turn = turn;
-  firm = r.firm;
-  client = c.client;
-  side = r.side;
-  price = unwrap_or c.price r.price;
-  quantity = unwrap_or c.quantity r.quantity;
-  open_lots = open_then c r;
+  client = asked.client;
+  price = unwrap_or asked.price order.price;
+  quantity = unwrap_or asked.quantity order.quantity;
+  open_lots = open_then asked order;
   shown = shown;
-  disclosed = unwrap_or c.disclosed r.disclosed;
-  validity = unwrap_or c.validity r.validity;
-  investor = r.investor;
-  tag = r.tag;
+  disclosed = unwrap_or asked.disclosed order.disclosed;
+  validity = unwrap_or asked.validity order.validity;
 }
 
--- it becomes incoming under a new turn, or keeps place and turn and shows the smaller of shown and open
+-- it becomes incoming under a new turn, or keeps place and turn and shows the smaller of its shown
+-- and open lots
 abbrev pub after_change : Amendment → ℕ → Account → Account
-after_change c turn a =
-    cond (costs_turn c a.order) (account incoming (changed_row c turn 0 a.order))
-    (account a.status (changed_row c a.order.turn (min a.order.shown (open_then c a.order)) a.order))
+after_change asked turn existing =
+    if costs_turn asked existing.order
+    then account incoming (changed_row asked turn 0 existing.order)
+    else account existing.status
+    (changed_row asked existing.order.turn
+    (min existing.order.shown (open_then asked existing.order)) existing.order)
 
 abbrev pub note_change : Request → ℕ → Tally → Tally
-note_change (change c) n t = record {
-  accounts = adjust (λ a. only (numbered n a) (Some (after_change c t.turn a)) a) t.accounts;
-  turn = t.turn + total (λ a. cond (numbered n a) (cond (costs_turn c a.order) 1 0) 0) t.accounts;
+note_change (change asked) number tally = record {
+  accounts = adjust (λ a. only (numbered number a) (Some (after_change asked tally.turn a)) a)
+      tally.accounts;
+  turn = tally.turn
+      + total (λ a. if numbered number a then (if costs_turn asked a.order then 1 else 0) else 0)
+      tally.accounts;
 }
-note_change (entry a) n t = t
-note_change removal n t = t
+note_change _ number tally = tally
 
--- line S: the stop is incoming, under a new turn
+-- line S: the stop is incoming, under a new turn (rules 12)
 abbrev pub triggered_account : ℕ → Account → Account
-triggered_account turn a = account incoming (row_with turn a.order.open_lots 0 a.order)
+triggered_account turn existing =
+    account incoming (row_with turn existing.order.open_lots 0 existing.order)
 
 abbrev pub note_trigger : ℕ → Tally → Tally
-note_trigger n t = record { accounts = adjust (λ a. only (numbered n a) (Some (triggered_account t.turn a)) a) t.accounts; turn = t.turn + 1 }
-
--- line T: lots come off both orders
-abbrev pub note_trade : (i r lots : ℕ) → Tally → Tally
-note_trade i r lots t = record {
-  accounts = adjust (λ a. only (numbered i a || numbered r a) (take_off lots t.turn a) a) t.accounts;
-  turn = t.turn + total (λ a. cond (numbered i a || numbered r a) (draws lots a) 0) t.accounts;
+note_trigger number tally = record {
+  accounts = adjust (λ a. only (numbered number a) (Some (triggered_account tally.turn a)) a)
+      tally.accounts;
+  turn = tally.turn + 1;
 }
 
--- line C: lots come off the order
-abbrev pub note_cancel : (n lots : ℕ) → Tally → Tally
-note_cancel n lots t = record { accounts = adjust (λ a. only (numbered n a) (take_off lots t.turn a) a) t.accounts; turn = t.turn }
+-- line T: lots come off both orders (rules 10)
+abbrev pub note_trade : (incoming_number resting_number lots : ℕ) → Tally → Tally
+note_trade incoming_number resting_number lots tally = record {
+  accounts = adjust
+      (λ a. only (numbered incoming_number a || numbered resting_number a)
+      (take_off lots tally.turn a) a)
+      tally.accounts;
+  turn = tally.turn
+      + total
+      (λ a. if numbered incoming_number a || numbered resting_number a
+      then turns_drawn lots a
+      else 0)
+      tally.accounts;
+}
 
+-- line C: lots come off the order (rules 10, 11, 14, 15)
+abbrev pub note_cancel : (number lots : ℕ) → Tally → Tally
+note_cancel number lots tally = record tally {
+  accounts = adjust (λ a. only (numbered number a) (take_off lots tally.turn a) a) tally.accounts;
+}
+
+-- a stop that fires is the next incoming order, so that the one before has come to stand
 abbrev pub note : Request → Line → Tally → Tally
-note q (Accepted n limit quantity) t = note_entry q n t
-note q (Replaced n limit quantity) t = note_change q n t
-note q (Triggered n limit lots) t = note_trigger n (incoming_rested t)
-note q (Traded i r price lots) t = note_trade i r lots t
-note q (Cancelled n limit lots cause) t = note_cancel n lots t
+note asked (Accepted number limit quantity) tally = note_entry asked number tally
+note asked (Replaced number limit quantity) tally = note_change asked number tally
+note asked (Triggered number limit lots) tally = note_trigger number (incoming_rested tally)
+note asked (Traded number resting price lots) tally = note_trade number resting lots tally
+note asked (Cancelled number limit lots cause) tally = note_cancel number lots tally
 
 -- the lines of a step, the latest first
 abbrev pub noted : Request → List Line → Tally → Tally
-noted q [] t = t
-noted q (l ∷ ls) t = note q l (noted q ls t)
+noted asked [] tally = tally
+noted asked (line ∷ earlier) tally = note asked line (noted asked earlier tally)

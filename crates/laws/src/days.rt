@@ -1,4 +1,4 @@
-// The steps of a day whose state is in its type, with the laws in their contracts. Book and tape are lent to each.
+// The steps of a day whose state is in its type, with the laws in their contracts.
 ghost use Rattle.std.specs.Prelude.{◌≡◌};
 ghost use Rattle.forms.specs.declared.form.Form.TheVariants.{Entry, Change, Cancel, MassCancel, Closing, Opening};
 ghost use Rattle.venue.specs.Days.{state, answer, step, Closes, Opens};
@@ -11,63 +11,75 @@ use forms::refusal::Refusal;
 use tapes::tape::Tape;
 use venue::day::{ClosedDay, OpenDay};
 
-// An order or stop is entered.
+/// Enters an order or a stop (rules 8). `Err` is why it was refused, and then all is as it was.
 pub fn enter<B: Book>(
     day: OpenDay,
     book: &mut B,
     tape: &mut Tape,
     form: EntryForm,
 ) -> (OpenDay, Result<(), Refusal>)
-    ensures answer { result.1 ≡ answer (Entry form) (state (B.queues book.old) tape.old (Open day)) }
-    ensures state { state (B.queues book.new) tape.new (Open result.0) ≡ step (Entry form) (state (B.queues book.old) tape.old (Open day)) }
+    ensures answer { result.1
+        ≡ answer (Entry form) (state (B.queues book.old) tape.old (Open day)) }
+    ensures state { state (B.queues book.new) tape.new (Open result.0)
+        ≡ step (Entry form) (state (B.queues book.old) tape.old (Open day)) }
     ensures holds_after { HoldsAfter (Entry form) (state (B.queues book.old) tape.old (Open day)) }
 {
     day.enter(book, tape, form)
 }
 
-// A standing order is changed.
+/// Changes a standing order (rules 13). `Err` is why it was refused, and then all is as it was.
 pub fn change<B: Book>(
     day: OpenDay,
     book: &mut B,
     tape: &mut Tape,
     form: ChangeForm,
 ) -> (OpenDay, Result<(), Refusal>)
-    ensures answer { result.1 ≡ answer (Change form) (state (B.queues book.old) tape.old (Open day)) }
-    ensures state { state (B.queues book.new) tape.new (Open result.0) ≡ step (Change form) (state (B.queues book.old) tape.old (Open day)) }
+    ensures answer { result.1
+        ≡ answer (Change form) (state (B.queues book.old) tape.old (Open day)) }
+    ensures state { state (B.queues book.new) tape.new (Open result.0)
+        ≡ step (Change form) (state (B.queues book.old) tape.old (Open day)) }
     ensures holds_after { HoldsAfter (Change form) (state (B.queues book.old) tape.old (Open day)) }
 {
     day.change(book, tape, form)
 }
 
-// The firm's order or stop of a number is removed.
+/// Removes the firm's order or stop of a number (rules 14). `Err` is why it was refused, and then
+/// all is as it was.
 pub fn cancel<B: Book>(
     day: OpenDay,
     book: &mut B,
     tape: &mut Tape,
     form: CancelForm,
 ) -> (OpenDay, Result<(), Refusal>)
-    ensures answer { result.1 ≡ answer (Cancel form) (state (B.queues book.old) tape.old (Open day)) }
-    ensures state { state (B.queues book.new) tape.new (Open result.0) ≡ step (Cancel form) (state (B.queues book.old) tape.old (Open day)) }
+    ensures answer { result.1
+        ≡ answer (Cancel form) (state (B.queues book.old) tape.old (Open day)) }
+    ensures state { state (B.queues book.new) tape.new (Open result.0)
+        ≡ step (Cancel form) (state (B.queues book.old) tape.old (Open day)) }
     ensures holds_after { HoldsAfter (Cancel form) (state (B.queues book.old) tape.old (Open day)) }
 {
     day.cancel(book, tape, form)
 }
 
-// All of the firm's orders and stops that match every filled cell are removed.
+/// Removes all of the firm's orders and stops that match every filled cell (rules 14). `Err` is why
+/// it was refused, and then all is as it was.
 pub fn mass_cancel<B: Book>(
     day: OpenDay,
     book: &mut B,
     tape: &mut Tape,
     form: MassCancelForm,
 ) -> (OpenDay, Result<(), Refusal>)
-    ensures answer { result.1 ≡ answer (MassCancel form) (state (B.queues book.old) tape.old (Open day)) }
-    ensures state { state (B.queues book.new) tape.new (Open result.0) ≡ step (MassCancel form) (state (B.queues book.old) tape.old (Open day)) }
-    ensures holds_after { HoldsAfter (MassCancel form) (state (B.queues book.old) tape.old (Open day)) }
+    ensures answer { result.1
+        ≡ answer (MassCancel form) (state (B.queues book.old) tape.old (Open day)) }
+    ensures state { state (B.queues book.new) tape.new (Open result.0)
+        ≡ step (MassCancel form) (state (B.queues book.old) tape.old (Open day)) }
+    ensures holds_after { HoldsAfter (MassCancel form)
+        (state (B.queues book.old) tape.old (Open day)) }
 {
     day.mass_cancel(book, tape, form)
 }
 
-// The Day orders and stops are removed and the day is closed, or it is handed back.
+/// Removes the orders and stops of validity Day and closes the day (rules 15). `Err` has the open
+/// day as it was, and why it was refused.
 pub fn close<B: Book>(
     day: OpenDay,
     book: &mut B,
@@ -79,7 +91,7 @@ pub fn close<B: Book>(
     day.close(book, tape)
 }
 
-// A later day is opened, or the closed one is handed back.
+/// Opens a later day (rules 15). `Err` has the closed day as it was, and why it was refused.
 pub fn open<B: Book>(
     day: ClosedDay,
     book: &B,
@@ -87,7 +99,8 @@ pub fn open<B: Book>(
     form: OpeningForm,
 ) -> Result<OpenDay, (ClosedDay, Refusal)>
     ensures answer { Opens form day (B.queues book.now) tape.now result }
-    ensures holds_after { HoldsAfter (Opening form) (state (B.queues book.now) tape.now (Closed day)) }
+    ensures holds_after { HoldsAfter (Opening form)
+        (state (B.queues book.now) tape.now (Closed day)) }
 {
     day.open(book, tape, form)
 }

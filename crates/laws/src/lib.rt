@@ -9,33 +9,38 @@ ghost use Rattle.laws.specs.Reaching.{ReachMeans, AlwaysFilled};
 ghost use Rattle.laws.specs.WithinRoom.{AlwaysWithinRoom, EnteredAsRequested, ChangedAsRequested};
 ghost use Rattle.laws.specs.Counterexamples.{Counterexamples};
 
-// After setting up and after every step, every lot is accounted for, no bid meets an offer and no stop is ripe.
+/// After setting up and after every step, every lot is accounted for, no bid meets an offer and no
+/// stop is ripe.
 pub fn always_lawful()
     ensures { AlwaysLawful }
 {}
 
-// No trade passes a limit or a turn, by a tally of the lines and arguments alone, which holds both orders.
+/// No trade passes a limit or a turn, by a tally of the lines and forms alone, which holds both
+/// orders.
 pub fn always_fair()
     ensures { AlwaysFair }
 {}
 
-// Inside a step neither the tape nor the stamps run out, no number is put twice, and no refill is refused.
+/// Inside a step neither the tape nor the stamps run out, no number is put twice, and no refill is
+/// refused.
 pub fn always_within_room()
     ensures { AlwaysWithinRoom }
 {}
 
-// What an accepted entry or change asks for is what the order has.
+/// What an accepted entry or change asks for is what the order has.
 pub fn as_requested()
     ensures entered { EnteredAsRequested }
     ensures changed { ChangedAsRequested }
 {}
 
-// Each law can be broken: by a lost or doubled lot, by a trade out of turn, past a limit or with a stranger, by a bid at an offer's price, by a ripe stop.
+/// Each law can be broken: by a lost or doubled lot, by a trade out of turn, past a limit or with
+/// an unknown order, by a bid at an offer's price, by a ripe stop.
 pub fn laws_can_fail()
     ensures { Counterexamples }
 {}
 
-// Reach is what an order without end would trade; so whoever wants all, or a minimum, trades that or nothing.
+/// Reach is what an order without end would trade; so an entry that wants all, or a minimum, trades
+/// that or nothing.
 pub fn reach_means()
     ensures lots { ReachMeans }
     ensures filled { AlwaysFilled }
