@@ -12,11 +12,11 @@ use Rattle.matching.proofs.OutcomeCases.{outcome_cases, incoming_left_cases}
 use Rattle.laws.specs.Tally.{Status, stands, waits, incoming}
 use Rattle.laws.specs.Accounts.{counting, quantity_of, traded_lots, cancelled_lots, open_of}
 use Rattle.laws.proofs.ConsistentQueues.{ConsistentQueues}
-use Rattle.laws.proofs.SumsOverOrders.{Measure, of_incoming, everywhere, over_le, over_plus, one_of}
+use Rattle.laws.proofs.SumsOverOrders.{Measure, of_incoming, everywhere, over_le, over_plus, with_number}
 use Rattle.laws.proofs.RowsInBounds.{refilled_row, reduced_row}
-use Rattle.laws.proofs.EventsApply.{Arrives, Changes, MayApply, of_outcome, measure_gone, measure_come, untouched_queues, measure_resting, taken_up, put_down, Single, one_itself}
+use Rattle.laws.proofs.EventsApply.{MayEnter, ChangesInto, MayApply, of_outcome, measure_out, measure_in, untouched_queues, measure_untouched, before_event, after_event, NumbersUnique, counts_itself}
 use Rattle.laws.specs.WithinRoom.{event_lines, event_stamps}
-use Rattle.laws.proofs.LinesAndStamps.{tape, Roomy, tape_is, stamp_is}
+use Rattle.laws.proofs.LinesAndStamps.{tape, RoomFor, tape_is, stamp_is}
 
 abbrev pub lots_of : ℕ → Measure
 lots_of n p o = open_of n o
@@ -26,14 +26,14 @@ abbrev pub unknown : List Line → Measure
 unknown l p o = cond (eqb (quantity_of o.number l) o.quantity) 0 1
 
 -- of the lines of a tape, the next stamp, and sums over all orders
-pub record Counted (l : List Line) (stamp : ℕ) (sum : Measure → ℕ) : Type 0 where
-  pub accounts : (n : ℕ) → quantity_of n l ≡ total (traded_lots n) l + sum (lots_of n) + total (cancelled_lots n) l
-  pub unborn : (n : ℕ) → stamp ≤ n → quantity_of n l ≡ 0
-  pub single : (n : ℕ) → sum (one_of n) ≤ 1
-  pub known : sum (unknown l) ≡ 0
+pub record AccountedBy (l : List Line) (stamp : ℕ) (sum : Measure → ℕ) : Type 0 where
+  pub balanced : (n : ℕ) → quantity_of n l ≡ total (traded_lots n) l + sum (lots_of n) + total (cancelled_lots n) l
+  pub unused : (n : ℕ) → stamp ≤ n → quantity_of n l ≡ 0
+  pub numbers_unique : (n : ℕ) → sum (with_number n) ≤ 1
+  pub quantities_known : sum (unknown l) ≡ 0
 
-abbrev pub Counts : MatchState → Type 0
-Counts f = Counted (tape f) f.session.next_stamp (λ g. everywhere g f)
+abbrev pub Accounted : MatchState → Type 0
+Accounted f = AccountedBy (tape f) f.session.next_stamp (λ g. everywhere g f)
 
 pub by_number : (m n : ℕ) (P : Bool → Type 0) → (m ≡ n → P true) → ((m ≡ n → ⊥) → P false) → P (eqb m n)
 by_number m n P same apart = go (eqb m n) refl
@@ -43,19 +43,19 @@ by_number m n P same apart = go (eqb m n) refl
     go false e = apart (eqb-false m n e)
 
 -- a number that nobody has had stands nowhere
-pub absent : (f : MatchState) → Counts f → (n : ℕ) → f.session.next_stamp ≤ n → everywhere (one_of n) f ≡ 0
-absent f k n l =
-    let a = over_le f.queues f.incoming (one_of n) (lots_of n) (λ p o. by_number o.number n (λ b. cond b 1 0 ≤ cond b o.open_lots 0) (λ _. omega arith) (λ _. omega arith)) in
-    omega (arith, k.accounts n, k.unborn n l)
+pub unused_nowhere : (f : MatchState) → Accounted f → (n : ℕ) → f.session.next_stamp ≤ n → everywhere (with_number n) f ≡ 0
+unused_nowhere f k n l =
+    let a = over_le f.queues f.incoming (with_number n) (lots_of n) (λ p o. by_number o.number n (λ b. cond b 1 0 ≤ cond b o.open_lots 0) (λ _. omega arith) (λ _. omega arith)) in
+    omega (arith, k.balanced n, k.unused n l)
 
 -- a number in use is below the next stamp
-pub born : (f : MatchState) → Counts f → (n : ℕ) → 1 ≤ everywhere (one_of n) f → n < f.session.next_stamp
-born f k n h = ⊎_elim (λ (l : n < f.session.next_stamp). l) (λ (l : f.session.next_stamp ≤ n). absurd (omega (arith, absent f k n l))) (cases_lt n f.session.next_stamp)
+pub used_below : (f : MatchState) → Accounted f → (n : ℕ) → 1 ≤ everywhere (with_number n) f → n < f.session.next_stamp
+used_below f k n h = ⊎_elim (λ (l : n < f.session.next_stamp). l) (λ (l : f.session.next_stamp ≤ n). absurd (omega (arith, unused_nowhere f k n l))) (cases_lt n f.session.next_stamp)
 
 -- open lots after a trade
 
-pub held_open : (n lots : ℕ) (o : Order) → lots ≤ o.open_lots → of_incoming (open_of n) (incoming_left lots o) + counting n o.number lots ≡ open_of n o
-held_open n lots o h = incoming_left_cases lots o (λ m. of_incoming (open_of n) m + counting n o.number lots ≡ open_of n o) h
+pub incoming_left_open : (n lots : ℕ) (o : Order) → lots ≤ o.open_lots → of_incoming (open_of n) (incoming_left lots o) + counting n o.number lots ≡ open_of n o
+incoming_left_open n lots o h = incoming_left_cases lots o (λ m. of_incoming (open_of n) m + counting n o.number lots ≡ open_of n o) h
     (λ e. by_number o.number n (λ b. 0 + cond b lots 0 ≡ cond b o.open_lots 0) (λ _. omega arith) (λ _. omega arith))
     (λ more. let k : (order_refilled o.turn lots o).open_lots ≡ o.open_lots - lots = ap (λ (r : OrderRow). r.open_lots) (refilled_row o.turn lots o more) in
     by_number o.number n (λ b. cond b (order_refilled o.turn lots o).open_lots 0 + cond b lots 0 ≡ cond b o.open_lots 0) (λ _. omega arith) (λ _. omega arith))
@@ -76,10 +76,10 @@ new_number m n lots old h = by_number m n (λ b. cond b lots old ≡ old + cond 
 old_number : (m n lots left new was old : ℕ) → (m ≡ n → old ≡ was) → lots + left ≡ new + was → cond (eqb m n) lots old + counting n m left ≡ old + counting n m new
 old_number m n lots left new was old h k = by_number m n (λ b. cond b lots old + cond b left 0 ≡ old + cond b new 0) (λ e. let z = h e in omega arith) (λ _. omega arith)
 
-newcomer : (o : Order) (f : MatchState) (n : ℕ) → Arrives o f → Counts f →
+new_order_counted : (o : Order) (f : MatchState) (n : ℕ) → MayEnter o f → Accounted f →
     cond (eqb o.number n) o.quantity (quantity_of n (tape f)) ≡ quantity_of n (tape f) + open_of n o
-newcomer o f n h k = ap (λ m. cond (eqb o.number n) m (quantity_of n (tape f))) (sym h.whole) ∙ new_number o.number n o.open_lots
-    (quantity_of n (tape f)) (λ e. k.unborn n (omega (arith, h.new)))
+new_order_counted o f n h k = ap (λ m. cond (eqb o.number n) m (quantity_of n (tape f))) (sym h.whole) ∙ new_number o.number n o.open_lots
+    (quantity_of n (tape f)) (λ e. k.unused n (omega (arith, h.new)))
 
 known_at : (l : List Line) (p : Status) (o : Order) → unknown l p o ≡ 0 → quantity_of o.number l ≡ o.quantity
 known_at l p o e = by_number (quantity_of o.number l) o.quantity (λ b. cond {A = ℕ} b 0 1 ≡ 0 → quantity_of o.number l ≡ o.quantity) (λ z _. z) (λ _ z. absurd (omega arith)) e
@@ -88,32 +88,32 @@ at_known : (l : List Line) (p : Status) (o : Order) → quantity_of o.number l �
 at_known l p o e = cond-true (eqb (quantity_of o.number l) o.quantity) 0 1 (eq-eqb (quantity_of o.number l) o.quantity e)
 
 -- the order that is changed, and what is known of it
-module _ (e : Event) (f : MatchState) (fit : MayApply e f) (k : Counts f) (x : Order) (is : (g : Measure) → measure_gone e f g ≡ g stands x) where
+module _ (e : Event) (f : MatchState) (fit : MayApply e f) (k : Accounted f) (x : Order) (is : (g : Measure) → measure_out e f g ≡ g stands x) where
   was_known : quantity_of x.number (tape f) ≡ x.quantity
-  was_known = known_at (tape f) stands x (omega (arith, taken_up (unknown (tape f)) e f fit, is (unknown (tape f)), k.known))
+  was_known = known_at (tape f) stands x (omega (arith, before_event (unknown (tape f)) e f fit, is (unknown (tape f)), k.quantities_known))
 
-  pub was_born : x.number < f.session.next_stamp
-  was_born = born f k x.number (omega (arith, taken_up (one_of x.number) e f fit, is (one_of x.number), one_itself stands x))
+  pub was_used : x.number < f.session.next_stamp
+  was_used = used_below f k x.number (omega (arith, before_event (with_number x.number) e f fit, is (with_number x.number), counts_itself stands x))
 
-  replaced : (o : Order) → Changes x o → (n : ℕ) → cond (eqb o.number n) o.quantity (quantity_of n (tape f)) + open_of n x ≡ quantity_of n (tape f) + open_of n o
+  replaced : (o : Order) → ChangesInto x o → (n : ℕ) → cond (eqb o.number n) o.quantity (quantity_of n (tape f)) + open_of n x ≡ quantity_of n (tape f) + open_of n o
   replaced o w n = rw w.number (old_number x.number n o.quantity x.open_lots o.open_lots x.quantity (quantity_of n (tape f))
       (λ z. subst (λ m. quantity_of m (tape f) ≡ x.quantity) z was_known) w.account)
 
-pub amended_is : (i : ℕ) (o : Order) (f : MatchState) (h : MayApply (amends i o) f) (g : Measure) → measure_gone (amends i o) f g ≡ g stands h.0.was
+pub amended_is : (i : ℕ) (o : Order) (f : MatchState) (h : MayApply (amends i o) f) (g : Measure) → measure_out (amends i o) f g ≡ g stands h.0.was
 amended_is i o f h g = ap (of_incoming (g stands)) h.0.there
 
-pub requeued_is : (s : _) (i : ℕ) (o : Order) (f : MatchState) (h : MayApply (requeues s i o) f) (g : Measure) → measure_gone (requeues s i o) f g ≡ g stands h.0.was
+pub requeued_is : (s : _) (i : ℕ) (o : Order) (f : MatchState) (h : MayApply (requeues s i o) f) (g : Measure) → measure_out (requeues s i o) f g ≡ g stands h.0.was
 requeued_is s i o f h g = ap (of_incoming (g stands)) h.0.there
 
 -- what an event writes, takes up and puts down balances, for each number
-balance : (e : Event) (f : MatchState) → MayApply e f → Counts f → (n : ℕ) →
-    quantity_of n (event_lines e ++ tape f) + total (traded_lots n) (tape f) + total (cancelled_lots n) (tape f) + measure_gone e f (lots_of n)
-    ≡ quantity_of n (tape f) + total (traded_lots n) (event_lines e ++ tape f) + total (cancelled_lots n) (event_lines e ++ tape f) + measure_come e f (lots_of n)
-balance (accepts o) f h k n = omega (arith, newcomer o f n h k)
-balance (accepts_stop x) f h k n = omega (arith, newcomer x.order f n h.arrives k)
-balance (accepts_and_cancels c o) f h k n = omega (arith, newcomer o f n h k)
-balance (accepts_unmatched m lots) f h k n = omega (arith, new_number m n lots (quantity_of n (tape f)) (λ e. k.unborn n (omega (arith, h.1))))
-balance (trades o r) f h k n = omega (arith, held_open n (trade_lots o r) o (omega arith), outcome_open n (trade_lots o r) f.session.next_stamp r (omega arith))
+balance : (e : Event) (f : MatchState) → MayApply e f → Accounted f → (n : ℕ) →
+    quantity_of n (event_lines e ++ tape f) + total (traded_lots n) (tape f) + total (cancelled_lots n) (tape f) + measure_out e f (lots_of n)
+    ≡ quantity_of n (tape f) + total (traded_lots n) (event_lines e ++ tape f) + total (cancelled_lots n) (event_lines e ++ tape f) + measure_in e f (lots_of n)
+balance (accepts o) f h k n = omega (arith, new_order_counted o f n h k)
+balance (accepts_stop x) f h k n = omega (arith, new_order_counted x.order f n h.enters k)
+balance (accepts_and_cancels c o) f h k n = omega (arith, new_order_counted o f n h k)
+balance (accepts_unmatched m lots) f h k n = omega (arith, new_number m n lots (quantity_of n (tape f)) (λ e. k.unused n (omega (arith, h.1))))
+balance (trades o r) f h k n = omega (arith, incoming_left_open n (trade_lots o r) o (omega arith), outcome_open n (trade_lots o r) f.session.next_stamp r (omega arith))
 balance (triggers s x) f h k n =
     let z : (order_refilled f.session.next_stamp 0 x.order).open_lots ≡ x.order.open_lots - 0 = ap (λ (r : OrderRow). r.open_lots) (refilled_row f.session.next_stamp 0 x.order (omega arith)) in
     let y : open_of n (order_refilled f.session.next_stamp 0 x.order) ≡ open_of n x.order = ap (counting n x.order.number)
@@ -123,51 +123,51 @@ balance (amends i o) f h k n = omega (arith, amended_is i o f h (lots_of n), rep
 balance (requeues s i o) f h k n = omega (arith, requeued_is s i o f h (lots_of n), replaced (requeues s i o) f h k h.0.was (requeued_is s i o f h) o h.0.changes n)
 balance _ f h k n = omega arith
 
-unborn_apply : (e : Event) (f : MatchState) → MayApply e f → Counts f → (n : ℕ) → f.session.next_stamp + event_stamps e ≤ n → quantity_of n (event_lines e ++ tape f) ≡ 0
-unborn_apply (accepts o) f h k n l = rw (ne_eqb o.number n (λ e. omega (arith, h.new, e))) (k.unborn n (omega arith))
-unborn_apply (accepts_stop x) f h k n l = rw (ne_eqb x.order.number n (λ e. omega (arith, h.arrives.new, e))) (k.unborn n (omega arith))
-unborn_apply (accepts_and_cancels c o) f h k n l = rw (ne_eqb o.number n (λ e. omega (arith, h.new, e))) (k.unborn n (omega arith))
-unborn_apply (accepts_unmatched m lots) f h k n l = rw (ne_eqb m n (λ e. omega (arith, h.1, e))) (k.unborn n (omega arith))
-unborn_apply (amends i o) f h k n l =
-    let b = was_born (amends i o) f h k h.0.was (amended_is i o f h) in
-    rw (ne_eqb o.number n (λ e. omega (arith, h.0.changes.number, e))) (k.unborn n (omega arith))
-unborn_apply (requeues s i o) f h k n l =
-    let b = was_born (requeues s i o) f h k h.0.was (requeued_is s i o f h) in
-    rw (ne_eqb o.number n (λ e. omega (arith, h.0.changes.number, e))) (k.unborn n (omega arith))
-unborn_apply _ f h k n l = k.unborn n (omega arith)
+unused_apply : (e : Event) (f : MatchState) → MayApply e f → Accounted f → (n : ℕ) → f.session.next_stamp + event_stamps e ≤ n → quantity_of n (event_lines e ++ tape f) ≡ 0
+unused_apply (accepts o) f h k n l = rw (ne_eqb o.number n (λ e. omega (arith, h.new, e))) (k.unused n (omega arith))
+unused_apply (accepts_stop x) f h k n l = rw (ne_eqb x.order.number n (λ e. omega (arith, h.enters.new, e))) (k.unused n (omega arith))
+unused_apply (accepts_and_cancels c o) f h k n l = rw (ne_eqb o.number n (λ e. omega (arith, h.new, e))) (k.unused n (omega arith))
+unused_apply (accepts_unmatched m lots) f h k n l = rw (ne_eqb m n (λ e. omega (arith, h.1, e))) (k.unused n (omega arith))
+unused_apply (amends i o) f h k n l =
+    let b = was_used (amends i o) f h k h.0.was (amended_is i o f h) in
+    rw (ne_eqb o.number n (λ e. omega (arith, h.0.changes.number, e))) (k.unused n (omega arith))
+unused_apply (requeues s i o) f h k n l =
+    let b = was_used (requeues s i o) f h k h.0.was (requeued_is s i o f h) in
+    rw (ne_eqb o.number n (λ e. omega (arith, h.0.changes.number, e))) (k.unused n (omega arith))
+unused_apply _ f h k n l = k.unused n (omega arith)
 
 -- numbers after a trade are the numbers before
-one_held : (n lots : ℕ) (o : Order) → lots ≤ o.open_lots → of_incoming (one_of n incoming) (incoming_left lots o) ≤ one_of n incoming o
-one_held n lots o h = incoming_left_cases lots o (λ m. of_incoming (one_of n incoming) m ≤ one_of n incoming o) h (λ _. omega arith) (λ _. omega arith)
+incoming_left_number : (n lots : ℕ) (o : Order) → lots ≤ o.open_lots → of_incoming (with_number n incoming) (incoming_left lots o) ≤ with_number n incoming o
+incoming_left_number n lots o h = incoming_left_cases lots o (λ m. of_incoming (with_number n incoming) m ≤ with_number n incoming o) h (λ _. omega arith) (λ _. omega arith)
 
-one_outcome : (n lots stamp : ℕ) (k : RestingOutcome) (r : Order) → of_outcome (one_of n stands) k lots stamp r ≤ one_of n stands r
-one_outcome n lots stamp filled r = omega arith
-one_outcome n lots stamp refilled r = omega arith
-one_outcome n lots stamp reduced r = omega arith
+outcome_number : (n lots stamp : ℕ) (k : RestingOutcome) (r : Order) → of_outcome (with_number n stands) k lots stamp r ≤ with_number n stands r
+outcome_number n lots stamp filled r = omega arith
+outcome_number n lots stamp refilled r = omega arith
+outcome_number n lots stamp reduced r = omega arith
 
-abbrev Few : ℕ → Event → MatchState → Type 0
-Few n e f = (measure_come e f (one_of n) ≤ measure_gone e f (one_of n)) ⊎ (everywhere (one_of n) f + measure_come e f (one_of n) ≤ 1)
+abbrev NumberStaysUnique : ℕ → Event → MatchState → Type 0
+NumberStaysUnique n e f = (measure_in e f (with_number n) ≤ measure_out e f (with_number n)) ⊎ (everywhere (with_number n) f + measure_in e f (with_number n) ≤ 1)
 
-single_new : (m n : ℕ) (f : MatchState) → m ≡ f.session.next_stamp → Counts f → (counting n m 1 ≤ 0) ⊎ (everywhere (one_of n) f + counting n m 1 ≤ 1)
-single_new m n f h k = by_number m n (λ b. (cond b 1 0 ≤ 0) ⊎ (everywhere (one_of n) f + cond b 1 0 ≤ 1)) (λ e. inr (omega (arith, absent f k n (omega arith)))) (λ _. inl (omega arith))
+unique_new : (m n : ℕ) (f : MatchState) → m ≡ f.session.next_stamp → Accounted f → (counting n m 1 ≤ 0) ⊎ (everywhere (with_number n) f + counting n m 1 ≤ 1)
+unique_new m n f h k = by_number m n (λ b. (cond b 1 0 ≤ 0) ⊎ (everywhere (with_number n) f + cond b 1 0 ≤ 1)) (λ e. inr (omega (arith, unused_nowhere f k n (omega arith)))) (λ _. inl (omega arith))
 
-single_coming : (e : Event) (f : MatchState) → MayApply e f → Counts f → (n : ℕ) → Few n e f
-single_coming (accepts o) f h k n = single_new o.number n f h.new k
-single_coming (accepts_stop x) f h k n = single_new x.order.number n f h.arrives.new k
-single_coming (trades o r) f h k n = inl (omega (arith, one_held n (trade_lots o r) o (omega arith), one_outcome n (trade_lots o r) f.session.next_stamp (outcome (trade_lots o r) r) r))
-single_coming (amends i o) f h k n = inl (let z : one_of n stands o ≡ one_of n stands h.0.was = ap (λ m. counting n m 1) h.0.changes.number in omega (arith, amended_is i o f h (one_of n)))
-single_coming (requeues s i o) f h k n = inl (let z : one_of n incoming o ≡ one_of n stands h.0.was = ap (λ m. counting n m 1)
-    h.0.changes.number in omega (arith, requeued_is s i o f h (one_of n)))
-single_coming _ f h k n = inl (omega arith)
+unique_after : (e : Event) (f : MatchState) → MayApply e f → Accounted f → (n : ℕ) → NumberStaysUnique n e f
+unique_after (accepts o) f h k n = unique_new o.number n f h.new k
+unique_after (accepts_stop x) f h k n = unique_new x.order.number n f h.enters.new k
+unique_after (trades o r) f h k n = inl (omega (arith, incoming_left_number n (trade_lots o r) o (omega arith), outcome_number n (trade_lots o r) f.session.next_stamp (outcome (trade_lots o r) r) r))
+unique_after (amends i o) f h k n = inl (let z : with_number n stands o ≡ with_number n stands h.0.was = ap (λ m. counting n m 1) h.0.changes.number in omega (arith, amended_is i o f h (with_number n)))
+unique_after (requeues s i o) f h k n = inl (let z : with_number n incoming o ≡ with_number n stands h.0.was = ap (λ m. counting n m 1)
+    h.0.changes.number in omega (arith, requeued_is s i o f h (with_number n)))
+unique_after _ f h k n = inl (omega arith)
 
 -- what is not known after a line A or R of number m either was not known or has that number
 abbrev unknown_after : (m lots : ℕ) → List Line → Measure
 unknown_after m lots l p o = cond (eqb (cond (eqb m o.number) lots (quantity_of o.number l)) o.quantity) 0 1
 
-still_known : (m lots : ℕ) (l : List Line) (p : Status) (o : Order) → unknown_after m lots l p o ≤ unknown l p o + one_of m p o
+still_known : (m lots : ℕ) (l : List Line) (p : Status) (o : Order) → unknown_after m lots l p o ≤ unknown l p o + with_number m p o
 still_known m lots l p o =
-    by_number m o.number (λ b. cond {A = ℕ} (eqb (cond b lots (quantity_of o.number l)) o.quantity) 0 1 ≤ unknown l p o + one_of m p o)
-    (λ e. let z : one_of m p o ≡ 1 = rw (eq-eqb o.number m (sym e)) refl in omega (arith, at_most (eqb lots o.quantity)))
+    by_number m o.number (λ b. cond {A = ℕ} (eqb (cond b lots (quantity_of o.number l)) o.quantity) 0 1 ≤ unknown l p o + with_number m p o)
+    (λ e. let z : with_number m p o ≡ 1 = rw (eq-eqb o.number m (sym e)) refl in omega (arith, at_most (eqb lots o.quantity)))
     (λ _. omega arith)
   where
     at_most : (b : Bool) → cond {A = ℕ} b 0 1 ≤ 1
@@ -178,29 +178,29 @@ known_new : (l : List Line) (p : Status) (o : Order) → unknown_after o.number 
 known_new l p o =
     rw (cond-true (eqb o.number o.number) o.quantity (quantity_of o.number l) (eq-eqb o.number o.number refl), eq-eqb o.quantity o.quantity refl) refl
 
-module _ (e : Event) (f : MatchState) (fit : MayApply e f) (k : Counts f) where
-  rest_known : measure_resting (unknown (tape f)) e f ≡ 0
-  rest_known = omega (arith, taken_up (unknown (tape f)) e f fit, k.known)
+module _ (e : Event) (f : MatchState) (fit : MayApply e f) (k : Accounted f) where
+  rest_known : measure_untouched (unknown (tape f)) e f ≡ 0
+  rest_known = omega (arith, before_event (unknown (tape f)) e f fit, k.quantities_known)
 
-  gone_known : measure_gone e f (unknown (tape f)) ≡ 0
-  gone_known = omega (arith, taken_up (unknown (tape f)) e f fit, k.known)
+  gone_known : measure_out e f (unknown (tape f)) ≡ 0
+  gone_known = omega (arith, before_event (unknown (tape f)) e f fit, k.quantities_known)
 
-  rest_new : (m : ℕ) → m ≡ f.session.next_stamp → measure_resting (one_of m) e f ≡ 0
-  rest_new m z = omega (arith, taken_up (one_of m) e f fit, absent f k m (omega arith))
+  rest_new : (m : ℕ) → m ≡ f.session.next_stamp → measure_untouched (with_number m) e f ≡ 0
+  rest_new m z = omega (arith, before_event (with_number m) e f fit, unused_nowhere f k m (omega arith))
 
   -- the orders left alone are still known after a line A or R of a number that none of them has
-  rest_still : (m lots : ℕ) → measure_resting (one_of m) e f ≡ 0 → measure_resting (unknown_after m lots (tape f)) e f ≡ 0
+  rest_still : (m lots : ℕ) → measure_untouched (with_number m) e f ≡ 0 → measure_untouched (unknown_after m lots (tape f)) e f ≡ 0
   rest_still m lots z =
       let q : Queues = untouched_queues e f in
-      let w : Measure = λ p o. unknown (tape f) p o + one_of m p o in
-      omega (arith, over_le q None (unknown_after m lots (tape f)) w (still_known m lots (tape f)), over_plus q None (unknown (tape f)) (one_of m), rest_known)
+      let w : Measure = λ p o. unknown (tape f) p o + with_number m p o in
+      omega (arith, over_le q None (unknown_after m lots (tape f)) w (still_known m lots (tape f)), over_plus q None (unknown (tape f)) (with_number m), rest_known)
 
   -- the orders that an event leaves alone have other numbers than the one that it takes up
-  pub rest_other : (m : ℕ) → 1 ≤ measure_gone e f (one_of m) → measure_resting (one_of m) e f ≡ 0
-  rest_other m h = omega (arith, taken_up (one_of m) e f fit, k.single m)
+  pub rest_other : (m : ℕ) → 1 ≤ measure_out e f (with_number m) → measure_untouched (with_number m) e f ≡ 0
+  rest_other m h = omega (arith, before_event (with_number m) e f fit, k.numbers_unique m)
 
-held_known : (l : List Line) (lots : ℕ) (o : Order) → lots ≤ o.open_lots → unknown l incoming o ≡ 0 → of_incoming (unknown l incoming) (incoming_left lots o) ≡ 0
-held_known l lots o h e = incoming_left_cases lots o (λ m. of_incoming (unknown l incoming) m ≡ 0) h (λ _. refl)
+incoming_left_known : (l : List Line) (lots : ℕ) (o : Order) → lots ≤ o.open_lots → unknown l incoming o ≡ 0 → of_incoming (unknown l incoming) (incoming_left lots o) ≡ 0
+incoming_left_known l lots o h e = incoming_left_cases lots o (λ m. of_incoming (unknown l incoming) m ≡ 0) h (λ _. refl)
     (λ more. at_known l incoming (order_refilled o.turn lots o) (known_at l incoming o e ∙ sym (ap (λ (r : OrderRow). r.quantity) (refilled_row o.turn lots o more))))
 
 outcome_known : (l : List Line) (lots stamp : ℕ) (r : Order) → lots ≤ r.shown → unknown l stands r ≡ 0 → of_outcome (unknown l stands) (outcome lots r) lots stamp r ≡ 0
@@ -208,14 +208,14 @@ outcome_known l lots stamp r h e = outcome_cases lots r (λ k. of_outcome (unkno
     (λ _ more. at_known l stands (order_refilled stamp lots r) (known_at l stands r e ∙ sym (ap (λ (r : OrderRow). r.quantity) (refilled_row stamp lots r more))))
     (λ less. at_known l stands (order_reduced lots r) (known_at l stands r e ∙ sym (ap (λ (r : OrderRow). r.quantity) (reduced_row lots r less))))
 
-known_apply : (e : Event) (f : MatchState) → MayApply e f → Counts f → measure_resting (unknown (event_lines e ++ tape f)) e f + measure_come e f (unknown (event_lines e ++ tape f)) ≡ 0
+known_apply : (e : Event) (f : MatchState) → MayApply e f → Accounted f → measure_untouched (unknown (event_lines e ++ tape f)) e f + measure_in e f (unknown (event_lines e ++ tape f)) ≡ 0
 known_apply (accepts o) f h k =
     let e : Event = accepts o in
     omega (arith, rest_still e f h k o.number o.quantity (rest_new e f h k o.number h.new), known_new (tape f) incoming o)
 known_apply (accepts_stop x) f h k =
     let e : Event = accepts_stop x in
     let o : Order = x.order in
-    omega (arith, rest_still e f h k o.number o.quantity (rest_new e f h k o.number h.arrives.new), known_new (tape f) waits o)
+    omega (arith, rest_still e f h k o.number o.quantity (rest_new e f h k o.number h.enters.new), known_new (tape f) waits o)
 known_apply (accepts_and_cancels c o) f h k =
     let e : Event = accepts_and_cancels c o in
     omega (arith, rest_still e f h k o.number o.quantity (rest_new e f h k o.number h.new))
@@ -225,7 +225,7 @@ known_apply (accepts_unmatched m lots) f h k =
 known_apply (cancels_incoming c o) f h k = omega (arith, rest_known (cancels_incoming c o) f h k)
 known_apply (trades o r) f h k =
     let g = gone_known (trades o r) f h k in
-    omega (arith, rest_known (trades o r) f h k, held_known (tape f) (trade_lots o r) o (omega arith) (omega arith), outcome_known (tape f) (trade_lots o r) f.session.next_stamp r (omega arith) (omega arith))
+    omega (arith, rest_known (trades o r) f h k, incoming_left_known (tape f) (trade_lots o r) o (omega arith) (omega arith), outcome_known (tape f) (trade_lots o r) f.session.next_stamp r (omega arith) (omega arith))
 known_apply (rests o) f h k = omega (arith, rest_known (rests o) f h k, gone_known (rests o) f h k)
 known_apply (triggers s x) f h k =
     let o : Order = x.order in
@@ -240,25 +240,25 @@ known_apply (cancels_resting c m i r) f h k = omega (arith, rest_known (cancels_
 known_apply (amends i o) f h k =
     let e : Event = amends i o in
     let x : Order = h.0.was in
-    let one : one_of o.number stands x ≡ 1 = rw h.0.changes.number (one_itself stands x) in
-    let alone = rest_other e f h k o.number (omega (arith, amended_is i o f h (one_of o.number))) in
+    let one : with_number o.number stands x ≡ 1 = rw h.0.changes.number (counts_itself stands x) in
+    let alone = rest_other e f h k o.number (omega (arith, amended_is i o f h (with_number o.number))) in
     omega (arith, rest_still e f h k o.number o.quantity alone, known_new (tape f) stands o)
 known_apply (requeues s i o) f h k =
     let e : Event = requeues s i o in
     let x : Order = h.0.was in
-    let one : one_of o.number stands x ≡ 1 = rw h.0.changes.number (one_itself stands x) in
-    let alone = rest_other e f h k o.number (omega (arith, requeued_is s i o f h (one_of o.number))) in
+    let one : with_number o.number stands x ≡ 1 = rw h.0.changes.number (counts_itself stands x) in
+    let alone = rest_other e f h k o.number (omega (arith, requeued_is s i o f h (with_number o.number))) in
     omega (arith, rest_still e f h k o.number o.quantity alone, known_new (tape f) incoming o)
 
 -- each event leaves all accounted for
-pub counts_apply : (e : Event) (f : MatchState) → MayApply e f → Roomy e f → ConsistentQueues f.queues → Counts f → Counts (apply e f)
-counts_apply e f h room g k =
-    let s : Single f = k.single in
-    subst (λ l. Counted l (apply e f).session.next_stamp (λ g. everywhere g (apply e f))) (sym (tape_is e f room))
-    (subst (λ n. Counted (event_lines e ++ tape f) n (λ g. everywhere g (apply e f))) (sym (stamp_is e f room))
+pub accounted_apply : (e : Event) (f : MatchState) → MayApply e f → RoomFor e f → ConsistentQueues f.queues → Accounted f → Accounted (apply e f)
+accounted_apply e f h room g k =
+    let s : NumbersUnique f = k.numbers_unique in
+    subst (λ l. AccountedBy l (apply e f).session.next_stamp (λ g. everywhere g (apply e f))) (sym (tape_is e f room))
+    (subst (λ n. AccountedBy (event_lines e ++ tape f) n (λ g. everywhere g (apply e f))) (sym (stamp_is e f room))
     (record {
-      accounts = λ n. omega (arith, taken_up (lots_of n) e f h, put_down (lots_of n) e f h g s, k.accounts n, balance e f h k n);
-      unborn = unborn_apply e f h k;
-      single = λ n. (let d = single_coming e f h k n in omega (arith, taken_up (one_of n) e f h, put_down (one_of n) e f h g s, k.single n));
-      known = omega (arith, put_down (unknown (event_lines e ++ tape f)) e f h g s, known_apply e f h k);
+      balanced = λ n. omega (arith, before_event (lots_of n) e f h, after_event (lots_of n) e f h g s, k.balanced n, balance e f h k n);
+      unused = unused_apply e f h k;
+      numbers_unique = λ n. (let d = unique_after e f h k n in omega (arith, before_event (with_number n) e f h, after_event (with_number n) e f h g s, k.numbers_unique n));
+      quantities_known = omega (arith, after_event (unknown (event_lines e ++ tape f)) e f h g s, known_apply e f h k);
     }))

@@ -7,11 +7,11 @@ use Rattle.laws.specs.Tally.{Tally, starting, changed_row}
 use Rattle.laws.specs.Runs.{after}
 use Rattle.laws.specs.WithinRoom.{state_between_steps, EnteredAsRequested, ChangedAsRequested}
 use Rattle.laws.proofs.RowsInBounds.{entered_row, order_from_row}
-use Rattle.laws.proofs.EntryArrives.{Proper}
+use Rattle.laws.proofs.EntryArrives.{ValidEntry}
 use Rattle.laws.proofs.ChangeApplies.{requeued_row, amended_row}
-use Rattle.laws.proofs.ValidatedRanges.{InOk, entry_ok}
+use Rattle.laws.proofs.ValidatedRanges.{IfOk, entry_ok}
 use Rattle.laws.proofs.EachForm.{ChangeGiven, change_given}
-use Rattle.laws.proofs.WholeRuns.{quiescent_after, quiescent_set_up, agrees_set_up}
+use Rattle.laws.proofs.WholeRuns.{quiescent_after, quiescent_set_up, tally_agrees_set_up}
 use Rattle.orders.specs.declared.order.Order.{Order}
 use Rattle.orders.specs.Rows.{row_of}
 use Rattle.orders.specs.Lots.{showing}
@@ -25,7 +25,7 @@ same_lots o r e =
 
 pub entered_as_requested : EnteredAsRequested
 entered_as_requested form a e price stamp =
-    let p : Proper a = subst (InOk Proper) e (entry_ok form) in
+    let p : ValidEntry a = subst (IfOk ValidEntry) e (entry_ok form) in
     same_lots (entered_order a price stamp) (entered_row a price stamp) (order_from_row a price stamp p.allowed)
 
 pub changed_as_requested : ChangedAsRequested
@@ -33,8 +33,8 @@ changed_as_requested day stamp q limit forms form p e =
     let z : State = set_up day stamp q limit in
     let t : Tally = starting (at_least_1 stamp) in
     let f : MatchState = state_between_steps (after forms z) in
-    let h = quiescent_after forms z t (quiescent_set_up day stamp q limit) (agrees_set_up day stamp q limit) in
-    let g : ChangeGiven form f p = subst (InOk (ChangeGiven form f)) e (change_given form f h.0.consistent.queues) in
+    let h = quiescent_after forms z t (quiescent_set_up day stamp q limit) (tally_agrees_set_up day stamp q limit) in
+    let g : ChangeGiven form f p = subst (IfOk (ChangeGiven form f)) e (change_given form f h.0.consistent.queues) in
     let c : Amendment = p.change in
     let o : Order = p.order in (
       λ turn. same_lots (requeued_order turn c o) (changed_row c turn (showing (new_disclosed c o) (new_open_lots c o)) (row_of o)) (requeued_row turn c o g.0),

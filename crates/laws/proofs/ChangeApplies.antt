@@ -13,25 +13,25 @@ use Rattle.matching.specs.declared.amendment.Amendment.{Amendment}
 use Rattle.matching.specs.Model.{MatchState, Event, amends, requeues, apply}
 use Rattle.matching.specs.Changing.{new_price, new_quantity, new_disclosed, new_open_lots, lots_traded, loses_turn, amended_order, requeued_order}
 use Rattle.laws.specs.Tally.{stands, incoming, Account, Tally, account, only, numbered, changed_row, costs_turn, after_change, note_change, change}
-use Rattle.laws.proofs.ConsistentQueues.{Low, price_same}
-use Rattle.laws.proofs.SumsOverOrders.{Measure, of_incoming, one_of}
-use Rattle.laws.proofs.RowsInBounds.{Allowed, reads, anew_fits}
-use Rattle.laws.proofs.EventsApply.{Changes, MayApply, measure_gone, one_itself}
-use Rattle.laws.proofs.LinesAndStamps.{Roomy, stamp_is}
+use Rattle.laws.proofs.ConsistentQueues.{InPriceRange, price_same}
+use Rattle.laws.proofs.SumsOverOrders.{Measure, of_incoming, with_number}
+use Rattle.laws.proofs.RowsInBounds.{QuantityAllowed, reads_back, shown_in_full_in_bounds}
+use Rattle.laws.proofs.EventsApply.{ChangesInto, MayApply, measure_out, counts_itself}
+use Rattle.laws.proofs.LinesAndStamps.{RoomFor, stamp_is}
 use Rattle.laws.proofs.RunsToRest.{Quiescent}
-use Rattle.laws.proofs.TallyAgrees.{View, by_row, as_seen, seen, on_account, of_maybe, through, TallyAgrees, is_only, one_moved, one_only}
+use Rattle.laws.proofs.TallyAgrees.{RowMeasure, of_tally_row, as_tally_row, tally_row, on_account, on_account_if, adjusted_measure, TallyAgrees, named_is, one_adjusted, one_only}
 
 -- what the checks of a change give
-pub record Permitted (c : Amendment) (o : Order) : Type 0 where
+pub record ValidChange (c : Amendment) (o : Order) : Type 0 where
   pub above : lots_traded o < new_quantity c o
-  pub allowed : Allowed (new_quantity c o) (new_disclosed c o)
-  pub low : Low (new_price c o)
+  pub allowed : QuantityAllowed (new_quantity c o) (new_disclosed c o)
+  pub price_in_range : InPriceRange (new_price c o)
 
-pub requeued_row : (stamp : ℕ) (c : Amendment) (o : Order) → Permitted c o →
+pub requeued_row : (stamp : ℕ) (c : Amendment) (o : Order) → ValidChange c o →
     row_of (requeued_order stamp c o) ≡ changed_row c stamp (showing (new_disclosed c o) (new_open_lots c o)) (row_of o)
 requeued_row stamp c o p =
     let r : OrderRow = changed_row c stamp (showing (new_disclosed c o) (new_open_lots c o)) (row_of o) in
-    reads r (anew_fits r refl (omega (arith, p.above)) (omega (arith, p.above)) p.allowed)
+    reads_back r (shown_in_full_in_bounds r refl (omega (arith, p.above)) (omega (arith, p.above)) p.allowed)
 
 pub record KeepsTurn (c : Amendment) (o : Order) : Type 0 where
   pub price : new_price c o ≡ o.price
@@ -48,65 +48,65 @@ keeps_turn c o e =
       disclosed = eqb-true (new_disclosed c o) o.disclosed (not-false (eqb (new_disclosed c o) o.disclosed) b.1);
     }
 
-pub amended_row : (c : Amendment) (o : Order) → Permitted c o → loses_turn c o ≡ false →
+pub amended_row : (c : Amendment) (o : Order) → ValidChange c o → loses_turn c o ≡ false →
     row_of (amended_order c o) ≡ changed_row c o.turn (min o.shown (new_open_lots c o)) (row_of o)
 amended_row c o p e =
     let k = keeps_turn c o e in
     let r : OrderRow = changed_row c o.turn (min o.shown (new_open_lots c o)) (row_of o) in
-    reads r (record {
+    reads_back r (record {
       some_shown = omega (arith, p.above);
       shown_within_open = omega arith;
       open_within_quantity = omega (arith, p.above);
-      quantity_within_most = p.allowed.few;
+      quantity_within_most = p.allowed.quantity_within_most;
       whole_shown = λ z. omega (arith, p.above, k.fewer, o.whole_shown (sym k.disclosed ∙ z));
       part_within_disclosed = λ z. omega (arith, k.disclosed, o.part_within_disclosed (omega (arith, k.disclosed, z)));
       hidden_within_parts = λ z. omega (arith, p.above, k.fewer, k.disclosed, o.hidden_within_parts (omega (arith, k.disclosed, z)));
     })
 
 -- traded lots are the same
-changes_requeued : (stamp : ℕ) (c : Amendment) (o : Order) → Permitted c o → Changes o (requeued_order stamp c o)
+changes_requeued : (stamp : ℕ) (c : Amendment) (o : Order) → ValidChange c o → ChangesInto o (requeued_order stamp c o)
 changes_requeued stamp c o p =
     let e = requeued_row stamp c o p in
     let q : (requeued_order stamp c o).quantity ≡ new_quantity c o = ap (λ (r : OrderRow). r.quantity) e in
     let l : (requeued_order stamp c o).open_lots ≡ new_open_lots c o = ap (λ (r : OrderRow). r.open_lots) e in
-    record { number = refl; side = refl; account = omega (arith, p.above); low = p.low }
+    record { number = refl; side = refl; account = omega (arith, p.above); price_in_range = p.price_in_range }
 
-changes_amended : (c : Amendment) (o : Order) → Permitted c o → loses_turn c o ≡ false → Changes o (amended_order c o)
+changes_amended : (c : Amendment) (o : Order) → ValidChange c o → loses_turn c o ≡ false → ChangesInto o (amended_order c o)
 changes_amended c o p k =
     let e = amended_row c o p k in
     let q : (amended_order c o).quantity ≡ new_quantity c o = ap (λ (r : OrderRow). r.quantity) e in
     let l : (amended_order c o).open_lots ≡ new_open_lots c o = ap (λ (r : OrderRow). r.open_lots) e in
-    record { number = refl; side = refl; account = omega (arith, p.above); low = p.low }
+    record { number = refl; side = refl; account = omega (arith, p.above); price_in_range = p.price_in_range }
 
-pub fits_requeues : (c : Amendment) (s : Side) (i : ℕ) (o : Order) (f : MatchState) → slice_get (at s f.queues.stands) i ≡ Some o → Permitted c o → Quiescent f →
+pub may_apply_requeues : (c : Amendment) (s : Side) (i : ℕ) (o : Order) (f : MatchState) → slice_get (at s f.queues.stands) i ≡ Some o → ValidChange c o → Quiescent f →
     MayApply (requeues s i (requeued_order f.session.next_stamp c o)) f
-fits_requeues c s i o f e p k =
+may_apply_requeues c s i o f e p k =
     let z = requeued_row f.session.next_stamp c o p in (
       record { idle = k.idle; was = o; there = e; changes = changes_requeued f.session.next_stamp c o p },
       ap (λ (r : OrderRow). r.shown) z ∙ sym (ap (λ (r : OrderRow). showing r.disclosed r.open_lots) z),
       refl,
     )
 
-pub fits_amends : (c : Amendment) (i : ℕ) (o : Order) (f : MatchState) → slice_get (at o.side f.queues.stands) i ≡ Some o → Permitted c o → loses_turn c o ≡ false →
+pub may_apply_amends : (c : Amendment) (i : ℕ) (o : Order) (f : MatchState) → slice_get (at o.side f.queues.stands) i ≡ Some o → ValidChange c o → loses_turn c o ≡ false →
     Quiescent f → MayApply (amends i (amended_order c o)) f
-fits_amends c i o f e p l k =
+may_apply_amends c i o f e p l k =
     (record { idle = k.idle; was = o; there = e; changes = changes_amended c o p l }, record { side = refl; price = (keeps_turn c o l).price; turn = refl; number = refl })
 
-module _ (c : Amendment) (i : ℕ) (o : Order) (f : MatchState) (p : Permitted c o) (k : Quiescent f) (t : Tally) (m : TallyAgrees t f) where
-  pub agrees_amends : (e : slice_get (at o.side f.queues.stands) i ≡ Some o) (l : loses_turn c o ≡ false) → Roomy (amends i (amended_order c o)) f →
+module _ (c : Amendment) (i : ℕ) (o : Order) (f : MatchState) (p : ValidChange c o) (k : Quiescent f) (t : Tally) (m : TallyAgrees t f) where
+  pub tally_agrees_amends : (e : slice_get (at o.side f.queues.stands) i ≡ Some o) (l : loses_turn c o ≡ false) → RoomFor (amends i (amended_order c o)) f →
       TallyAgrees (note_change (change c) o.number t) (apply (amends i (amended_order c o)) f)
-  agrees_amends e l room =
+  tally_agrees_amends e l room =
       let o' : Order = amended_order c o in
       let ev : Event = amends i o' in
-      let fit = fits_amends c i o f e p l k in
-      let is : (g : Measure) → measure_gone ev f g ≡ g stands o = λ g. ap (of_incoming (g stands)) e in
-      let one : 1 ≤ measure_gone ev f (one_of o.number) = omega (arith, is (one_of o.number), one_itself stands o) in
+      let fit = may_apply_amends c i o f e p l k in
+      let is : (g : Measure) → measure_out ev f g ≡ g stands o = λ g. ap (of_incoming (g stands)) e in
+      let one : 1 ≤ measure_out ev f (with_number o.number) = omega (arith, is (with_number o.number), counts_itself stands o) in
       let h : Account → Option Account = λ a. Some (after_change c t.turn a) in
-      let w : View = λ q x. cond (costs_turn c x) 1 0 in
+      let w : RowMeasure = λ q x. cond (costs_turn c x) 1 0 in
       record {
-        sums = one_moved ev f fit k.consistent o.number one t m h
-            (λ g. is (through (λ a. only (numbered o.number a) (h a) a) g)
-            ∙ (ap (of_maybe g) (is_only (h (account stands (seen stands o))) stands o)
+        sums = one_adjusted ev f fit k.consistent o.number one t m h
+            (λ g. is (adjusted_measure (λ a. only (numbered o.number a) (h a) a) g)
+            ∙ (ap (on_account_if g) (named_is (h (account stands (tally_row stands o))) stands o)
             ∙ (ap (on_account g) (cond-false (loses_turn c o) (account incoming (changed_row c t.turn 0 (row_of o)))
             (account stands (changed_row c o.turn (min o.shown (new_open_lots c o)) (row_of o))) l)
             ∙ sym (ap (g stands) (amended_row c o p l)))));
@@ -115,39 +115,39 @@ module _ (c : Amendment) (i : ℕ) (o : Order) (f : MatchState) (p : Permitted c
           m.turns,
           stamp_is ev f room,
           m.sums (λ q x. cond (eqb x.number o.number) (w q x) 0),
-          one_only ev f fit k.consistent o.number one t m (by_row w),
-          is (λ q x. cond (eqb x.number o.number) (by_row w q x) 0),
+          one_only ev f fit k.consistent o.number one t m (of_tally_row w),
+          is (λ q x. cond (eqb x.number o.number) (of_tally_row w q x) 0),
           cond-true (eqb o.number o.number) (w stands (row_of o)) 0 (eq-eqb o.number o.number refl),
           cond-false {A = ℕ} (loses_turn c o) 1 0 l,
         );
       }
 
-  pub agrees_requeues : (s : Side) (e : slice_get (at s f.queues.stands) i ≡ Some o) (l : loses_turn c o ≡ true) →
-      Roomy (requeues s i (requeued_order f.session.next_stamp c o)) f →
+  pub tally_agrees_requeues : (s : Side) (e : slice_get (at s f.queues.stands) i ≡ Some o) (l : loses_turn c o ≡ true) →
+      RoomFor (requeues s i (requeued_order f.session.next_stamp c o)) f →
       TallyAgrees (note_change (change c) o.number t) (apply (requeues s i (requeued_order f.session.next_stamp c o)) f)
-  agrees_requeues s e l room =
+  tally_agrees_requeues s e l room =
       let o' : Order = requeued_order f.session.next_stamp c o in
       let ev : Event = requeues s i o' in
-      let fit = fits_requeues c s i o f e p k in
-      let is : (g : Measure) → measure_gone ev f g ≡ g stands o = λ g. ap (of_incoming (g stands)) e in
-      let one : 1 ≤ measure_gone ev f (one_of o.number) = omega (arith, is (one_of o.number), one_itself stands o) in
+      let fit = may_apply_requeues c s i o f e p k in
+      let is : (g : Measure) → measure_out ev f g ≡ g stands o = λ g. ap (of_incoming (g stands)) e in
+      let one : 1 ≤ measure_out ev f (with_number o.number) = omega (arith, is (with_number o.number), counts_itself stands o) in
       let h : Account → Option Account = λ a. Some (after_change c t.turn a) in
-      let w : View = λ q x. cond (costs_turn c x) 1 0 in
+      let w : RowMeasure = λ q x. cond (costs_turn c x) 1 0 in
       record {
-        sums = one_moved ev f fit k.consistent o.number one t m h
-            (λ g. is (through (λ a. only (numbered o.number a) (h a) a) g)
-            ∙ (ap (of_maybe g) (is_only (h (account stands (seen stands o))) stands o)
+        sums = one_adjusted ev f fit k.consistent o.number one t m h
+            (λ g. is (adjusted_measure (λ a. only (numbered o.number a) (h a) a) g)
+            ∙ (ap (on_account_if g) (named_is (h (account stands (tally_row stands o))) stands o)
             ∙ (ap (on_account g) (cond-true (loses_turn c o) (account incoming (changed_row c t.turn 0 (row_of o)))
             (account stands (changed_row c o.turn (min o.shown (new_open_lots c o)) (row_of o))) l)
             ∙ (ap (λ n. g incoming (changed_row c n 0 (row_of o))) m.turns
-            ∙ sym (ap (λ r. g incoming (as_seen incoming r)) (requeued_row f.session.next_stamp c o p))))));
+            ∙ sym (ap (λ r. g incoming (as_tally_row incoming r)) (requeued_row f.session.next_stamp c o p))))));
         turns = omega (
           arith,
           m.turns,
           stamp_is ev f room,
           m.sums (λ q x. cond (eqb x.number o.number) (w q x) 0),
-          one_only ev f fit k.consistent o.number one t m (by_row w),
-          is (λ q x. cond (eqb x.number o.number) (by_row w q x) 0),
+          one_only ev f fit k.consistent o.number one t m (of_tally_row w),
+          is (λ q x. cond (eqb x.number o.number) (of_tally_row w q x) 0),
           cond-true (eqb o.number o.number) (w stands (row_of o)) 0 (eq-eqb o.number o.number refl),
           cond-true {A = ℕ} (loses_turn c o) 1 0 l,
         );

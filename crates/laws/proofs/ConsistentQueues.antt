@@ -20,11 +20,11 @@ use Rattle.books.specs.declared.queue.Queue.TheVariants.{Orders, Stops}
 use Rattle.books.specs.declared.queue.Record.TheVariants.{Standing, Waiting}
 use Rattle.books.specs.Model.{Both, Queues, at, with_at, with_stands, with_waits, rank_of, stop_rank_of, count, capacity, inserted, taken, record_set}
 use Rattle.laws.specs.Quiescence.{Uncrossed}
-use Rattle.laws.proofs.SortedLists.{Sorted, length_taken, all_removed, all_nth, sorted_removed, length_put_in, all_put_in, sorted_put_in, length_rewritten, all_rewritten, sorted_set}
+use Rattle.laws.proofs.SortedLists.{Sorted, length_removed, all_removed, all_nth, sorted_removed, length_put_in, all_put_in, sorted_put_in, length_rewritten, all_rewritten, sorted_set}
 
 -- a price that a rank can tell
-abbrev pub Low : Price → Type 0
-Low p = level p ≤ 4294967295
+abbrev pub InPriceRange : Price → Type 0
+InPriceRange p = level p ≤ 4294967295
 
 -- a price is its level
 pub price_same : (p q : Price) → level p ≡ level q → p ≡ q
@@ -33,18 +33,18 @@ price_same p q e = ap as_price e
     as_price : ℕ → Price
     as_price n = record { hundredths = n }
 
-abbrev pub Sided : Side → Order → Type 0
-Sided s o = (o.side ≡ s) × Low o.price
+abbrev pub OnSide : Side → Order → Type 0
+OnSide s o = (o.side ≡ s) × InPriceRange o.price
 
-abbrev pub StopSided : Side → Stop → Type 0
-StopSided s x = (x.order.side ≡ s) × Low x.order.price × Low x.trigger
+abbrev pub StopOnSide : Side → Stop → Type 0
+StopOnSide s x = (x.order.side ≡ s) × InPriceRange x.order.price × InPriceRange x.trigger
 
 pub record ConsistentQueues (q : Queues) : Type 0 where
   pub bounded : (n : Queue) → count n q ≤ capacity n q
   pub sorted : (s : Side) → Sorted rank_of (at s q.stands)
   pub stops_sorted : (s : Side) → Sorted stop_rank_of (at s q.waits)
-  pub sided : (s : Side) → AllByRecursion (Sided s) (at s q.stands)
-  pub stops_sided : (s : Side) → AllByRecursion (StopSided s) (at s q.waits)
+  pub on_side : (s : Side) → AllByRecursion (OnSide s) (at s q.stands)
+  pub stops_on_side : (s : Side) → AllByRecursion (StopOnSide s) (at s q.waits)
   pub uncrossed : Uncrossed q.stands
 
 -- one side changes, and the other stays
@@ -59,9 +59,9 @@ at_own Buy a b = refl
 at_own Sell a b = refl
 
 -- an order of this side meets nobody of the other
-abbrev pub Clear : Side → Both (List Order) → Order → Type 0
-Clear Buy b o = AllByRecursion (λ (y : Order). level o.price < level y.price) b.sell
-Clear Sell b o = AllByRecursion (λ (x : Order). level x.price < level o.price) b.buy
+abbrev pub CrossesNone : Side → Both (List Order) → Order → Type 0
+CrossesNone Buy b o = AllByRecursion (λ (y : Order). level o.price < level y.price) b.sell
+CrossesNone Sell b o = AllByRecursion (λ (x : Order). level x.price < level o.price) b.buy
 
 pub all_any : {X : Type 0} (P : X → Type 0) → ((x : X) → P x) → (l : List X) → AllByRecursion P l
 all_any P h [] = tt
@@ -75,64 +75,64 @@ all_flip : {X Y : Type 0} (R : X → Y → Type 0) (k : List X) (l : List Y) →
 all_flip R [] l h = all_any (λ y. Unit {0}) (λ _. tt) l
 all_flip R (x ∷ k) l h = all_both (R x) (λ y. AllByRecursion (λ x. R x y) k) l h.0 (all_flip R k l h.1)
 
-all_clear : (s : Side) (b : Both (List Order)) → Uncrossed b → AllByRecursion (Clear s b) (at s b)
-all_clear Buy b h = h
-all_clear Sell b h = all_flip (λ (x y : Order). level x.price < level y.price) b.buy b.sell h
+all_cross_none : (s : Side) (b : Both (List Order)) → Uncrossed b → AllByRecursion (CrossesNone s b) (at s b)
+all_cross_none Buy b h = h
+all_cross_none Sell b h = all_flip (λ (x y : Order). level x.price < level y.price) b.buy b.sell h
 
-uncrossed_with : (s : Side) (l : List Order) (b : Both (List Order)) → AllByRecursion (Clear s b) l → Uncrossed (with_at s l b)
+uncrossed_with : (s : Side) (l : List Order) (b : Both (List Order)) → AllByRecursion (CrossesNone s b) l → Uncrossed (with_at s l b)
 uncrossed_with Buy l b h = h
 uncrossed_with Sell l b h = all_flip (λ (y x : Order). level x.price < level y.price) l b.buy h
 
-pub queues_stands : (s : Side) (l : List Order) (q : Queues) → ConsistentQueues q → length l ≤ at s q.standing_capacity → Sorted rank_of l → AllByRecursion (Sided s) l →
-    AllByRecursion (Clear s q.stands) l → ConsistentQueues (with_stands s l q)
+pub queues_stands : (s : Side) (l : List Order) (q : Queues) → ConsistentQueues q → length l ≤ at s q.standing_capacity → Sorted rank_of l → AllByRecursion (OnSide s) l →
+    AllByRecursion (CrossesNone s q.stands) l → ConsistentQueues (with_stands s l q)
 queues_stands s l q g n o d c = record {
   bounded = elim [ Orders t ↦ at_with (λ t l. length l ≤ at t q.standing_capacity) s l q.stands n (λ t. g.bounded (Orders t)) t | Stops t ↦ g.bounded (Stops t) ];
   sorted = at_with (λ t l. Sorted rank_of l) s l q.stands o g.sorted;
   stops_sorted = g.stops_sorted;
-  sided = at_with (λ t l. AllByRecursion (Sided t) l) s l q.stands d g.sided;
-  stops_sided = g.stops_sided;
+  on_side = at_with (λ t l. AllByRecursion (OnSide t) l) s l q.stands d g.on_side;
+  stops_on_side = g.stops_on_side;
   uncrossed = uncrossed_with s l q.stands c;
 }
 
-pub queues_waits : (s : Side) (l : List Stop) (q : Queues) → ConsistentQueues q → length l ≤ at s q.waiting_capacity → Sorted stop_rank_of l → AllByRecursion (StopSided s) l →
+pub queues_waits : (s : Side) (l : List Stop) (q : Queues) → ConsistentQueues q → length l ≤ at s q.waiting_capacity → Sorted stop_rank_of l → AllByRecursion (StopOnSide s) l →
     ConsistentQueues (with_waits s l q)
 queues_waits s l q g n o d = record {
   bounded = elim [ Orders t ↦ g.bounded (Orders t) | Stops t ↦ at_with (λ t l. length l ≤ at t q.waiting_capacity) s l q.waits n (λ t. g.bounded (Stops t)) t ];
   sorted = g.sorted;
   stops_sorted = at_with (λ t l. Sorted stop_rank_of l) s l q.waits o g.stops_sorted;
-  sided = g.sided;
-  stops_sided = at_with (λ t l. AllByRecursion (StopSided t) l) s l q.waits d g.stops_sided;
+  on_side = g.on_side;
+  stops_on_side = at_with (λ t l. AllByRecursion (StopOnSide t) l) s l q.waits d g.stops_on_side;
   uncrossed = g.uncrossed;
 }
 
 -- after a take
-pub queues_cut : (s : Side) (i : ℕ) (o : Order) (q : Queues) → slice_get (at s q.stands) i ≡ Some o → ConsistentQueues q → ConsistentQueues (taken (Orders s) i q)
-queues_cut s i o q e g =
-    queues_stands s (remove (at s q.stands) i) q g (omega (arith, length_taken (at s q.stands) i o e, g.bounded (Orders s)))
-    (sorted_removed rank_of (at s q.stands) i (g.sorted s)) (all_removed (Sided s) (at s q.stands) i (g.sided s))
-    (all_removed (Clear s q.stands) (at s q.stands) i (all_clear s q.stands g.uncrossed))
+pub queues_removed : (s : Side) (i : ℕ) (o : Order) (q : Queues) → slice_get (at s q.stands) i ≡ Some o → ConsistentQueues q → ConsistentQueues (taken (Orders s) i q)
+queues_removed s i o q e g =
+    queues_stands s (remove (at s q.stands) i) q g (omega (arith, length_removed (at s q.stands) i o e, g.bounded (Orders s)))
+    (sorted_removed rank_of (at s q.stands) i (g.sorted s)) (all_removed (OnSide s) (at s q.stands) i (g.on_side s))
+    (all_removed (CrossesNone s q.stands) (at s q.stands) i (all_cross_none s q.stands g.uncrossed))
 
-pub queues_stop_cut : (s : Side) (i : ℕ) (x : Stop) (q : Queues) → slice_get (at s q.waits) i ≡ Some x → ConsistentQueues q → ConsistentQueues (taken (Stops s) i q)
-queues_stop_cut s i x q e g =
-    queues_waits s (remove (at s q.waits) i) q g (omega (arith, length_taken (at s q.waits) i x e, g.bounded (Stops s)))
-    (sorted_removed stop_rank_of (at s q.waits) i (g.stops_sorted s)) (all_removed (StopSided s) (at s q.waits) i (g.stops_sided s))
+pub queues_stop_removed : (s : Side) (i : ℕ) (x : Stop) (q : Queues) → slice_get (at s q.waits) i ≡ Some x → ConsistentQueues q → ConsistentQueues (taken (Stops s) i q)
+queues_stop_removed s i x q e g =
+    queues_waits s (remove (at s q.waits) i) q g (omega (arith, length_removed (at s q.waits) i x e, g.bounded (Stops s)))
+    (sorted_removed stop_rank_of (at s q.waits) i (g.stops_sorted s)) (all_removed (StopOnSide s) (at s q.waits) i (g.stops_on_side s))
 
 -- after a put
-pub queues_put : (o : Order) (q : Queues) → count (Orders o.side) q < capacity (Orders o.side) q → Low o.price → Clear o.side q.stands o → ConsistentQueues q →
+pub queues_put : (o : Order) (q : Queues) → count (Orders o.side) q < capacity (Orders o.side) q → InPriceRange o.price → CrossesNone o.side q.stands o → ConsistentQueues q →
     ConsistentQueues (inserted (Standing o) q)
 queues_put o q n p c g =
     let s : Side = o.side in
     let l : List Order = at s q.stands in
-    queues_stands s (put_by_rank rank_of o l) q g (omega (arith, length_put_in rank_of o l)) (sorted_put_in rank_of o l (g.sorted s)) (all_put_in rank_of (Sided s) o l (refl, p) (g.sided s))
-    (all_put_in rank_of (Clear s q.stands) o l c (all_clear s q.stands g.uncrossed))
+    queues_stands s (put_by_rank rank_of o l) q g (omega (arith, length_put_in rank_of o l)) (sorted_put_in rank_of o l (g.sorted s)) (all_put_in rank_of (OnSide s) o l (refl, p) (g.on_side s))
+    (all_put_in rank_of (CrossesNone s q.stands) o l c (all_cross_none s q.stands g.uncrossed))
 
-pub queues_stop_put : (x : Stop) (q : Queues) → count (Stops x.order.side) q < capacity (Stops x.order.side) q → Low x.order.price → Low x.trigger →
+pub queues_stop_put : (x : Stop) (q : Queues) → count (Stops x.order.side) q < capacity (Stops x.order.side) q → InPriceRange x.order.price → InPriceRange x.trigger →
     ConsistentQueues q → ConsistentQueues (inserted (Waiting x) q)
 queues_stop_put x q n p t g =
     let s : Side = x.order.side in
     let l : List Stop = at s q.waits in
     queues_waits s (put_by_rank stop_rank_of x l) q g (omega (arith, length_put_in stop_rank_of x l)) (sorted_put_in stop_rank_of x l (g.stops_sorted s))
-    (all_put_in stop_rank_of (StopSided s) x l (refl, p, t) (g.stops_sided s))
+    (all_put_in stop_rank_of (StopOnSide s) x l (refl, p, t) (g.stops_on_side s))
 
 -- one order stands in the place of another
 pub record SameRank (x o : Order) : Type 0 where
@@ -144,43 +144,43 @@ pub record SameRank (x o : Order) : Type 0 where
 pub same_order_rank : (x o : Order) → SameRank x o → rank_of o ≡ rank_of x
 same_order_rank x o h = rw (h.side, h.price, h.turn, h.number) refl
 
-pub same_clear : (s : Side) (b : Both (List Order)) (x o : Order) → o.price ≡ x.price → Clear s b x → Clear s b o
-same_clear Buy b x o e h = subst (λ p. AllByRecursion (λ (y : Order). level p < level y.price) b.sell) (sym e) h
-same_clear Sell b x o e h = subst (λ p. AllByRecursion (λ (y : Order). level y.price < level p) b.buy) (sym e) h
+pub same_crosses_none : (s : Side) (b : Both (List Order)) (x o : Order) → o.price ≡ x.price → CrossesNone s b x → CrossesNone s b o
+same_crosses_none Buy b x o e h = subst (λ p. AllByRecursion (λ (y : Order). level p < level y.price) b.sell) (sym e) h
+same_crosses_none Sell b x o e h = subst (λ p. AllByRecursion (λ (y : Order). level y.price < level p) b.buy) (sym e) h
 
 pub queues_set : (i : ℕ) (x o : Order) (q : Queues) → slice_get (at o.side q.stands) i ≡ Some x → SameRank x o → ConsistentQueues q → ConsistentQueues (record_set i (Standing o) q)
 queues_set i x o q e h g =
     let s : Side = o.side in
     let l : List Order = at s q.stands in
-    let d = all_nth (Sided s) l i x e (g.sided s) in
-    let c = all_clear s q.stands g.uncrossed in
+    let d = all_nth (OnSide s) l i x e (g.on_side s) in
+    let c = all_cross_none s q.stands g.uncrossed in
     queues_stands s (set l i o) q g (omega (arith, length_rewritten l i o, g.bounded (Orders s))) (sorted_set rank_of l i x o e (same_order_rank x o h) (g.sorted s))
-    (all_rewritten (Sided s) l i o (refl, subst Low (sym h.price) d.1) (g.sided s))
-    (all_rewritten (Clear s q.stands) l i o (same_clear s q.stands x o h.price (all_nth (Clear s q.stands) l i x e c)) c)
+    (all_rewritten (OnSide s) l i o (refl, subst InPriceRange (sym h.price) d.1) (g.on_side s))
+    (all_rewritten (CrossesNone s q.stands) l i o (same_crosses_none s q.stands x o h.price (all_nth (CrossesNone s q.stands) l i x e c)) c)
 
 -- a standing order is clear, also of what is left when it is taken
-pub clear_nth : (s : Side) (i : ℕ) (o : Order) (q : Queues) → slice_get (at s q.stands) i ≡ Some o → ConsistentQueues q → Clear s q.stands o
-clear_nth s i o q e g = all_nth (Clear s q.stands) (at s q.stands) i o e (all_clear s q.stands g.uncrossed)
+pub nth_crosses_none : (s : Side) (i : ℕ) (o : Order) (q : Queues) → slice_get (at s q.stands) i ≡ Some o → ConsistentQueues q → CrossesNone s q.stands o
+nth_crosses_none s i o q e g = all_nth (CrossesNone s q.stands) (at s q.stands) i o e (all_cross_none s q.stands g.uncrossed)
 
-pub clear_own : (s : Side) (l : List Order) (b : Both (List Order)) (o : Order) → Clear s b o → Clear s (with_at s l b) o
-clear_own Buy l b o h = h
-clear_own Sell l b o h = h
+pub crosses_none_own : (s : Side) (l : List Order) (b : Both (List Order)) (o : Order) → CrossesNone s b o → CrossesNone s (with_at s l b) o
+crosses_none_own Buy l b o h = h
+crosses_none_own Sell l b o h = h
 
 -- a limit meets none of these
-abbrev pub Beyond : Side → Price → List Order → Type 0
-Beyond s limit l = AllByRecursion (λ (a : Order). within_limit s limit a.price ≡ false) l
+abbrev pub NoneWithinLimit : Side → Price → List Order → Type 0
+NoneWithinLimit s limit l = AllByRecursion (λ (a : Order). within_limit s limit a.price ≡ false) l
 
-pub clear_beyond : (o : Order) (s : Side) (b : Both (List Order)) → Beyond s o.price (at (opposite s) b) → Clear s b o
-clear_beyond o Buy b h = All-weaker (λ (a : Order). leb (level a.price) (level o.price) ≡ false) (λ (a : Order). level o.price < level a.price)
+pub none_within_crosses_none : (o : Order) (s : Side) (b : Both (List Order)) → NoneWithinLimit s o.price (at (opposite s) b) → CrossesNone s b o
+none_within_crosses_none o Buy b h = All-weaker (λ (a : Order). leb (level a.price) (level o.price) ≡ false) (λ (a : Order). level o.price < level a.price)
     (λ a. leb-false (level a.price) (level o.price)) b.sell h
-clear_beyond o Sell b h = All-weaker (λ (a : Order). leb (level o.price) (level a.price) ≡ false) (λ (a : Order). level a.price < level o.price)
+none_within_crosses_none o Sell b h = All-weaker (λ (a : Order). leb (level o.price) (level a.price) ≡ false) (λ (a : Order). level a.price < level o.price)
     (λ a. leb-false (level o.price) (level a.price)) b.buy h
 
 -- what ranks behind the first is priced no better
 pub ranks_lower : (a b : Rank) → ranks_ahead b a ≡ false → a.key ≤ b.key
 ranks_lower a b h = grind (arith, nat_tests)
 
-pub no_better : (s : Side) (limit p p' : Price) (t n t' n' : ℕ) → Low p → Low p' → within_limit s limit p ≡ false →
+pub no_better : (s : Side) (limit p p' : Price) (t n t' n' : ℕ) → InPriceRange p → InPriceRange p' → within_limit s limit p ≡ false →
     ranks_ahead (record { key = order_key (opposite s) p'; turn = t'; number = n' }) (record { key = order_key (opposite s) p; turn = t; number = n }) ≡ false →
     within_limit s limit p' ≡ false
 no_better Buy limit p p' t n t' n' l l' h k =
@@ -191,19 +191,19 @@ no_better Sell limit p p' t n t' n' l l' h k =
     lt-leb (level limit) (level p') (omega (arith, leb-false (level limit) (level p) h))
 
 -- the same of stops: buy stops rank by lower trigger, sell stops by higher
-pub no_riper : (s : Side) (last p p' : Price) (t n t' n' : ℕ) → Low p → Low p' → within_limit s last p ≡ false →
+pub no_riper : (s : Side) (last p p' : Price) (t n t' n' : ℕ) → InPriceRange p → InPriceRange p' → within_limit s last p ≡ false →
     ranks_ahead (record { key = stop_key s p'; turn = t'; number = n' }) (record { key = stop_key s p; turn = t; number = n }) ≡ false → within_limit s last p' ≡ false
 no_riper Buy last p p' t n t' n' l l' h k = no_better Buy last p p' t n t' n' l l' h k
 no_riper Sell last p p' t n t' n' l l' h k = no_better Sell last p p' t n t' n' l l' h k
 
-pub beyond_first : (s : Side) (limit : Price) (r : Order) (rest : List Order) → Sorted rank_of (r ∷ rest) → AllByRecursion (Sided (opposite s)) (r ∷ rest) →
-    within_limit s limit r.price ≡ false → Beyond s limit (r ∷ rest)
-beyond_first s limit r rest h d e = (
+pub none_within_limit : (s : Side) (limit : Price) (r : Order) (rest : List Order) → Sorted rank_of (r ∷ rest) → AllByRecursion (OnSide (opposite s)) (r ∷ rest) →
+    within_limit s limit r.price ≡ false → NoneWithinLimit s limit (r ∷ rest)
+none_within_limit s limit r rest h d e = (
   e,
-  All-weaker (λ a. (ranks_ahead (rank_of a) (rank_of r) ≡ false) × Sided (opposite s) a) (λ a. within_limit s limit a.price ≡ false)
+  All-weaker (λ a. (ranks_ahead (rank_of a) (rank_of r) ≡ false) × OnSide (opposite s) a) (λ a. within_limit s limit a.price ≡ false)
       (λ a k. no_better s limit r.price a.price r.turn r.number a.turn a.number d.0.1 k.1.1 e
       (subst (λ z. ranks_ahead (record { key = order_key z a.price; turn = a.turn; number = a.number })
       (record { key = order_key (opposite s) r.price; turn = r.turn; number = r.number }) ≡ false) k.1.0
       (subst (λ z. ranks_ahead (rank_of a) (record { key = order_key z r.price; turn = r.turn; number = r.number }) ≡ false) d.0.0 k.0))) rest
-      (all_both (λ a. ranks_ahead (rank_of a) (rank_of r) ≡ false) (Sided (opposite s)) rest h.0 d.1),
+      (all_both (λ a. ranks_ahead (rank_of a) (rank_of r) ≡ false) (OnSide (opposite s)) rest h.0 d.1),
 )

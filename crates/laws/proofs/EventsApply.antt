@@ -19,47 +19,47 @@ use Rattle.books.specs.Model.{Queues, at, rank_of, count, capacity, order_of_rec
 use Rattle.matching.specs.Model.{MatchState, Event, accepts, accepts_stop, accepts_and_cancels, accepts_unmatched, cancels_incoming, trades, rests, triggers, cancels_resting, amends, requeues, RestingOutcome, filled, refilled, reduced, outcome, put_back, after_trade, incoming_left, trade_lots, apply}
 use Rattle.matching.proofs.OutcomeCases.{incoming_left_cases}
 use Rattle.laws.specs.Tally.{Status, stands, waits, incoming}
-use Rattle.laws.proofs.SortedLists.{length_taken, all_nth}
-use Rattle.laws.proofs.RowsInBounds.{Shows, refilled_shows}
-use Rattle.laws.proofs.ConsistentQueues.{Low, Sided, StopSided, ConsistentQueues, Beyond, SameRank, at_own, queues_cut, queues_stop_cut, queues_put, queues_stop_put, queues_set, clear_nth, clear_beyond, same_clear, same_order_rank, clear_own}
-use Rattle.laws.proofs.SumsOverOrders.{Measure, queued, of_incoming, over, everywhere, one_of, queued_cut, queued_stop_cut, queued_put, queued_stop_put, queued_set, put_done}
+use Rattle.laws.proofs.SortedLists.{length_removed, all_nth}
+use Rattle.laws.proofs.RowsInBounds.{ShowsInFull, refilled_shows}
+use Rattle.laws.proofs.ConsistentQueues.{InPriceRange, OnSide, StopOnSide, ConsistentQueues, NoneWithinLimit, SameRank, at_own, queues_removed, queues_stop_removed, queues_put, queues_stop_put, queues_set, nth_crosses_none, none_within_crosses_none, same_crosses_none, same_order_rank, crosses_none_own}
+use Rattle.laws.proofs.SumsOverOrders.{Measure, queued, of_incoming, over, everywhere, with_number, queued_removed, queued_stop_removed, queued_put, queued_stop_put, queued_set, put_done}
 
 -- a new order, wholly open, under the next stamp
-pub record Arrives (o : Order) (f : MatchState) : Type 0 where
+pub record MayEnter (o : Order) (f : MatchState) : Type 0 where
   pub idle : f.incoming ≡ None
   pub new : o.number ≡ f.session.next_stamp
   pub turn : o.turn ≡ f.session.next_stamp
   pub whole : o.open_lots ≡ o.quantity
-  pub low : Low o.price
-  pub shows : Shows o
+  pub price_in_range : InPriceRange o.price
+  pub shows_in_full : ShowsInFull o
 
 -- one order after a change: its traded lots are the same
-pub record Changes (o o' : Order) : Type 0 where
+pub record ChangesInto (o o' : Order) : Type 0 where
   pub number : o'.number ≡ o.number
   pub side : o'.side ≡ o.side
   pub account : o'.quantity + o.open_lots ≡ o'.open_lots + o.quantity
-  pub low : Low o'.price
+  pub price_in_range : InPriceRange o'.price
 
-pub record ChangedAt (s : Side) (i : ℕ) (o' : Order) (f : MatchState) : Type 0 where
+pub record MayChange (s : Side) (i : ℕ) (o' : Order) (f : MatchState) : Type 0 where
   pub idle : f.incoming ≡ None
   pub was : Order
   pub there : slice_get (at s f.queues.stands) i ≡ Some was
-  pub changes : Changes was o'
+  pub changes : ChangesInto was o'
 
-pub record AcceptsStop (x : Stop) (f : MatchState) : Type 0 where
-  pub arrives : Arrives x.order f
-  pub room_left : count (Stops x.order.side) f.queues < capacity (Stops x.order.side) f.queues
-  pub low : Low x.trigger
+pub record MayAcceptStop (x : Stop) (f : MatchState) : Type 0 where
+  pub enters : MayEnter x.order f
+  pub has_place : count (Stops x.order.side) f.queues < capacity (Stops x.order.side) f.queues
+  pub price_in_range : InPriceRange x.trigger
 
-pub record Trades (o r : Order) (f : MatchState) : Type 0 where
+pub record MayTrade (o r : Order) (f : MatchState) : Type 0 where
   pub is_incoming : f.incoming ≡ Some o
   pub first : slice_get (at (opposite o.side) f.queues.stands) 0 ≡ Some r
   pub within_its_limit : within_limit o.side o.price r.price ≡ true
 
-pub record Rests (o : Order) (f : MatchState) : Type 0 where
+pub record MayRest (o : Order) (f : MatchState) : Type 0 where
   pub is_incoming : f.incoming ≡ Some o
-  pub beyond : Beyond o.side o.price (at (opposite o.side) f.queues.stands)
-  pub room_left : count (Orders o.side) f.queues < capacity (Orders o.side) f.queues
+  pub none_match : NoneWithinLimit o.side o.price (at (opposite o.side) f.queues.stands)
+  pub has_place : count (Orders o.side) f.queues < capacity (Orders o.side) f.queues
 
 -- where a record lies
 abbrev pub RecordAt : Queue → ℕ → Record → Queues → Type 0
@@ -72,17 +72,17 @@ status (Stops s) = waits
 
 -- when an event may happen
 abbrev pub MayApply : Event → MatchState → Type 0
-MayApply (accepts o) f = Arrives o f
-MayApply (accepts_stop x) f = AcceptsStop x f
-MayApply (accepts_and_cancels c o) f = Arrives o f
+MayApply (accepts o) f = MayEnter o f
+MayApply (accepts_stop x) f = MayAcceptStop x f
+MayApply (accepts_and_cancels c o) f = MayEnter o f
 MayApply (accepts_unmatched n k) f = (f.incoming ≡ None) × (n ≡ f.session.next_stamp)
 MayApply (cancels_incoming c o) f = f.incoming ≡ Some o
-MayApply (trades o r) f = Trades o r f
-MayApply (rests o) f = Rests o f
+MayApply (trades o r) f = MayTrade o r f
+MayApply (rests o) f = MayRest o f
 MayApply (triggers s x) f = (f.incoming ≡ None) × (slice_get (at s f.queues.waits) 0 ≡ Some x)
 MayApply (cancels_resting c n i r) f = (f.incoming ≡ None) × RecordAt n i r f.queues
-MayApply (amends i o) f = (h : ChangedAt o.side i o f) × SameRank h.was o
-MayApply (requeues s i o) f = ChangedAt s i o f × Shows o × (o.turn ≡ f.session.next_stamp)
+MayApply (amends i o) f = (h : MayChange o.side i o f) × SameRank h.was o
+MayApply (requeues s i o) f = MayChange s i o f × ShowsInFull o × (o.turn ≡ f.session.next_stamp)
 
 -- what goes with an event, and what comes
 
@@ -91,25 +91,25 @@ of_outcome w filled lots stamp r = 0
 of_outcome w refilled lots stamp r = w (order_refilled stamp lots r)
 of_outcome w reduced lots stamp r = w (order_reduced lots r)
 
-abbrev pub measure_gone : Event → MatchState → Measure → ℕ
-measure_gone (cancels_incoming c o) f g = g incoming o
-measure_gone (trades o r) f g = g incoming o + g stands r
-measure_gone (rests o) f g = g incoming o
-measure_gone (triggers s x) f g = g waits x.order
-measure_gone (cancels_resting c n i r) f g = g (status n) (order_of_record r)
-measure_gone (amends i o) f g = of_incoming (g stands) (slice_get (at o.side f.queues.stands) i)
-measure_gone (requeues s i o) f g = of_incoming (g stands) (slice_get (at s f.queues.stands) i)
-measure_gone _ f g = 0
+abbrev pub measure_out : Event → MatchState → Measure → ℕ
+measure_out (cancels_incoming c o) f g = g incoming o
+measure_out (trades o r) f g = g incoming o + g stands r
+measure_out (rests o) f g = g incoming o
+measure_out (triggers s x) f g = g waits x.order
+measure_out (cancels_resting c n i r) f g = g (status n) (order_of_record r)
+measure_out (amends i o) f g = of_incoming (g stands) (slice_get (at o.side f.queues.stands) i)
+measure_out (requeues s i o) f g = of_incoming (g stands) (slice_get (at s f.queues.stands) i)
+measure_out _ f g = 0
 
-abbrev pub measure_come : Event → MatchState → Measure → ℕ
-measure_come (accepts o) f g = g incoming o
-measure_come (accepts_stop x) f g = g waits x.order
-measure_come (trades o r) f g = of_incoming (g incoming) (incoming_left (trade_lots o r) o) + of_outcome (g stands) (outcome (trade_lots o r) r) (trade_lots o r) f.session.next_stamp r
-measure_come (rests o) f g = g stands o
-measure_come (triggers s x) f g = g incoming (order_refilled f.session.next_stamp 0 x.order)
-measure_come (amends i o) f g = g stands o
-measure_come (requeues s i o) f g = g incoming o
-measure_come _ f g = 0
+abbrev pub measure_in : Event → MatchState → Measure → ℕ
+measure_in (accepts o) f g = g incoming o
+measure_in (accepts_stop x) f g = g waits x.order
+measure_in (trades o r) f g = of_incoming (g incoming) (incoming_left (trade_lots o r) o) + of_outcome (g stands) (outcome (trade_lots o r) r) (trade_lots o r) f.session.next_stamp r
+measure_in (rests o) f g = g stands o
+measure_in (triggers s x) f g = g incoming (order_refilled f.session.next_stamp 0 x.order)
+measure_in (amends i o) f g = g stands o
+measure_in (requeues s i o) f g = g incoming o
+measure_in _ f g = 0
 
 -- the queues and the hand without what goes
 abbrev pub untouched_queues : Event → MatchState → Queues
@@ -121,8 +121,8 @@ untouched_queues (requeues s i o) f = taken (Orders s) i f.queues
 untouched_queues _ f = f.queues
 
 -- with any event nothing else is incoming
-abbrev pub measure_resting : Measure → Event → MatchState → ℕ
-measure_resting g e f = over g (untouched_queues e f) None
+abbrev pub measure_untouched : Measure → Event → MatchState → ℕ
+measure_untouched g e f = over g (untouched_queues e f) None
 
 module _ (g : Measure) where
   none_incoming : (f : MatchState) → f.incoming ≡ None → of_incoming (g incoming) f.incoming ≡ 0
@@ -132,33 +132,33 @@ module _ (g : Measure) where
   incoming_measure f o e = ap (of_incoming (g incoming)) e
 
   pulled : (n : Queue) (i : ℕ) (r : Record) (q : Queues) → RecordAt n i r q → queued g (taken n i q) + g (status n) (order_of_record r) ≡ queued g q
-  pulled (Orders s) i r q h = let z : g stands (order_of_record r) ≡ g stands h.0 = ap (λ r. g stands (order_of_record r)) h.1 in omega (arith, queued_cut g s i h.0 q h.2)
-  pulled (Stops s) i r q h = let z : g waits (order_of_record r) ≡ g waits h.0.order = ap (λ r. g waits (order_of_record r)) h.1 in omega (arith, queued_stop_cut g s i h.0 q h.2)
+  pulled (Orders s) i r q h = let z : g stands (order_of_record r) ≡ g stands h.0 = ap (λ r. g stands (order_of_record r)) h.1 in omega (arith, queued_removed g s i h.0 q h.2)
+  pulled (Stops s) i r q h = let z : g waits (order_of_record r) ≡ g waits h.0.order = ap (λ r. g waits (order_of_record r)) h.1 in omega (arith, queued_stop_removed g s i h.0 q h.2)
 
   -- what an event takes up
-  pub taken_up : (e : Event) (f : MatchState) → MayApply e f → measure_resting g e f + measure_gone e f g ≡ everywhere g f
-  taken_up (accepts o) f h = omega (arith, none_incoming f h.idle)
-  taken_up (accepts_and_cancels c o) f h = omega (arith, none_incoming f h.idle)
-  taken_up (accepts_stop x) f h = omega (arith, none_incoming f h.arrives.idle)
-  taken_up (accepts_unmatched n k) f h = omega (arith, none_incoming f h.0)
-  taken_up (cancels_incoming c o) f h = omega (arith, incoming_measure f o h)
-  taken_up (trades o r) f h = omega (arith, incoming_measure f o h.is_incoming, queued_cut g (opposite o.side) 0 r f.queues h.first)
-  taken_up (rests o) f h = omega (arith, incoming_measure f o h.is_incoming)
-  taken_up (triggers s x) f h = omega (arith, none_incoming f h.0, queued_stop_cut g s 0 x f.queues h.1)
-  taken_up (cancels_resting c n i r) f h = omega (arith, none_incoming f h.0, pulled n i r f.queues h.1)
-  taken_up (amends i o) f h =
+  pub before_event : (e : Event) (f : MatchState) → MayApply e f → measure_untouched g e f + measure_out e f g ≡ everywhere g f
+  before_event (accepts o) f h = omega (arith, none_incoming f h.idle)
+  before_event (accepts_and_cancels c o) f h = omega (arith, none_incoming f h.idle)
+  before_event (accepts_stop x) f h = omega (arith, none_incoming f h.enters.idle)
+  before_event (accepts_unmatched n k) f h = omega (arith, none_incoming f h.0)
+  before_event (cancels_incoming c o) f h = omega (arith, incoming_measure f o h)
+  before_event (trades o r) f h = omega (arith, incoming_measure f o h.is_incoming, queued_removed g (opposite o.side) 0 r f.queues h.first)
+  before_event (rests o) f h = omega (arith, incoming_measure f o h.is_incoming)
+  before_event (triggers s x) f h = omega (arith, none_incoming f h.0, queued_stop_removed g s 0 x f.queues h.1)
+  before_event (cancels_resting c n i r) f h = omega (arith, none_incoming f h.0, pulled n i r f.queues h.1)
+  before_event (amends i o) f h =
       let z : of_incoming (g stands) (slice_get (at o.side f.queues.stands) i) ≡ g stands h.0.was = ap (of_incoming (g stands)) h.0.there in
-      omega (arith, none_incoming f h.0.idle, queued_cut g o.side i h.0.was f.queues h.0.there)
-  taken_up (requeues s i o) f h =
+      omega (arith, none_incoming f h.0.idle, queued_removed g o.side i h.0.was f.queues h.0.there)
+  before_event (requeues s i o) f h =
       let z : of_incoming (g stands) (slice_get (at s f.queues.stands) i) ≡ g stands h.0.was = ap (of_incoming (g stands)) h.0.there in
-      omega (arith, none_incoming f h.0.idle, queued_cut g s i h.0.was f.queues h.0.there)
+      omega (arith, none_incoming f h.0.idle, queued_removed g s i h.0.was f.queues h.0.there)
 
 -- each number is had once at most
-abbrev pub Single : MatchState → Type 0
-Single f = (n : ℕ) → everywhere (one_of n) f ≤ 1
+abbrev pub NumbersUnique : MatchState → Type 0
+NumbersUnique f = (n : ℕ) → everywhere (with_number n) f ≤ 1
 
-pub one_itself : (p : Status) (o : Order) → one_of o.number p o ≡ 1
-one_itself p o = rw (eq-eqb o.number o.number refl) refl
+pub counts_itself : (p : Status) (o : Order) → with_number o.number p o ≡ 1
+counts_itself p o = rw (eq-eqb o.number o.number refl) refl
 
 -- what a trade leaves of the queue that it met
 
@@ -172,16 +172,16 @@ rewrites i x o q e k =
 
 -- the book takes back an order that shows again
 pub put_back_done : (r x : Order) (f : MatchState) → x.side ≡ r.side → x.number ≡ r.number → slice_get (at r.side f.queues.stands) 0 ≡ Some r →
-    ConsistentQueues f.queues → Single f →
+    ConsistentQueues f.queues → NumbersUnique f →
     put_answer (Standing x) (taken (Orders r.side) 0 f.queues) ≡ Ok tt
 put_back_done r x f d n e g k =
     let q : Queues = f.queues in
     let s : Side = r.side in
     let t : Queues = taken (Orders s) 0 q in
-    let c = queued_cut (one_of x.number) s 0 r q e in
-    let one : one_of x.number stands r ≡ 1 = rw n (one_itself stands r) in
+    let c = queued_removed (with_number x.number) s 0 r q e in
+    let one : with_number x.number stands r ≡ 1 = rw n (counts_itself stands r) in
     put_done (Standing x) t (omega (arith, k x.number))
-    (subst (λ (z : Side). count (Orders z) t < capacity (Orders z) t) (sym d) (omega (arith, fewer s q (length_taken (at s q.stands) 0 r e), g.bounded (Orders s), same_room s q)))
+    (subst (λ (z : Side). count (Orders z) t < capacity (Orders z) t) (sym d) (omega (arith, fewer s q (length_removed (at s q.stands) 0 r e), g.bounded (Orders s), same_room s q)))
   where
     fewer : (s : Side) (q : Queues) → suc (length (remove (at s q.stands) 0)) ≡ length (at s q.stands) →
         suc (count (Orders s) (taken (Orders s) 0 q)) ≡ count (Orders s) q
@@ -190,8 +190,8 @@ put_back_done r x f d n e g k =
     same_room : (s : Side) (q : Queues) → capacity (Orders s) (taken (Orders s) 0 q) ≡ capacity (Orders s) q
     same_room s q = refl
 
-pub rest_side : (o r : Order) (f : MatchState) → Trades o r f → ConsistentQueues f.queues → Sided (opposite o.side) r
-rest_side o r f h g = all_nth (Sided (opposite o.side)) (at (opposite o.side) f.queues.stands) 0 r h.first (g.sided (opposite o.side))
+pub rest_side : (o r : Order) (f : MatchState) → MayTrade o r f → ConsistentQueues f.queues → OnSide (opposite o.side) r
+rest_side o r f h g = all_nth (OnSide (opposite o.side)) (at (opposite o.side) f.queues.stands) 0 r h.first (g.on_side (opposite o.side))
 
 -- the queues after each outcome
 abbrev pub after_outcome : RestingOutcome → (lots stamp : ℕ) → Order → Queues → Queues
@@ -199,7 +199,7 @@ after_outcome filled lots stamp r q = taken (Orders r.side) 0 q
 after_outcome refilled lots stamp r q = inserted (Standing (order_refilled stamp lots r)) (taken (Orders r.side) 0 q)
 after_outcome reduced lots stamp r q = record_set 0 (Standing (order_reduced lots r)) q
 
-after_trade_is : (k : RestingOutcome) (lots stamp : ℕ) (r : Order) (f : MatchState) → slice_get (at r.side f.queues.stands) 0 ≡ Some r → ConsistentQueues f.queues → Single f →
+after_trade_is : (k : RestingOutcome) (lots stamp : ℕ) (r : Order) (f : MatchState) → slice_get (at r.side f.queues.stands) 0 ≡ Some r → ConsistentQueues f.queues → NumbersUnique f →
     after_trade k r.side lots stamp r f.queues ≡ after_outcome k lots stamp r f.queues
 unfolding put_back
 after_trade_is filled lots stamp r f e g s = refl
@@ -209,14 +209,14 @@ after_trade_is refilled lots stamp r f e g s =
     ap (λ (p : PutAnswer). after_put p (Standing x) t) (put_back_done r x f refl refl e g s)
 after_trade_is reduced lots stamp r f e g s = rewrites 0 r (order_reduced lots r) f.queues e refl
 
-pub after_trade_trade : (o r : Order) (f : MatchState) → Trades o r f → ConsistentQueues f.queues → Single f →
+pub after_trade_trade : (o r : Order) (f : MatchState) → MayTrade o r f → ConsistentQueues f.queues → NumbersUnique f →
     after_trade (outcome (trade_lots o r) r) (opposite o.side) (trade_lots o r) f.session.next_stamp r f.queues ≡ after_outcome (outcome (trade_lots o r) r) (trade_lots o r) f.session.next_stamp r f.queues
 after_trade_trade o r f h g s =
     let d = (rest_side o r f h g).0 in
     subst (λ (z : Side). after_trade (outcome (trade_lots o r) r) z (trade_lots o r) f.session.next_stamp r f.queues ≡ after_outcome (outcome (trade_lots o r) r) (trade_lots o r) f.session.next_stamp r f.queues) d
     (after_trade_is (outcome (trade_lots o r) r) (trade_lots o r) f.session.next_stamp r f (subst (λ (z : Side). slice_get (at z f.queues.stands) 0 ≡ Some r) (sym d) h.first) g s)
 
-own_first : (o r : Order) (f : MatchState) → Trades o r f → ConsistentQueues f.queues → slice_get (at r.side f.queues.stands) 0 ≡ Some r
+own_first : (o r : Order) (f : MatchState) → MayTrade o r f → ConsistentQueues f.queues → slice_get (at r.side f.queues.stands) 0 ≡ Some r
 own_first o r f h g = subst (λ (z : Side). slice_get (at z f.queues.stands) 0 ≡ Some r) (sym (rest_side o r f h g).0) h.first
 
 queued_outcome : (g : Measure) (k : RestingOutcome) (lots stamp : ℕ) (r : Order) (q : Queues) → slice_get (at r.side q.stands) 0 ≡ Some r →
@@ -226,9 +226,9 @@ queued_outcome g refilled lots stamp r q e = queued_put g (order_refilled stamp 
 queued_outcome g reduced lots stamp r q e = queued_set g 0 r (order_reduced lots r) q e
 
 -- what an event puts down
-pub put_down : (g : Measure) (e : Event) (f : MatchState) → MayApply e f → ConsistentQueues f.queues → Single f → everywhere g (apply e f) ≡ measure_resting g e f + measure_come e f g
-put_down g (accepts_stop x) f h k s = omega (arith, queued_stop_put g x f.queues)
-put_down g (trades o r) f h k s =
+pub after_event : (g : Measure) (e : Event) (f : MatchState) → MayApply e f → ConsistentQueues f.queues → NumbersUnique f → everywhere g (apply e f) ≡ measure_untouched g e f + measure_in e f g
+after_event g (accepts_stop x) f h k s = omega (arith, queued_stop_put g x f.queues)
+after_event g (trades o r) f h k s =
     let m : RestingOutcome = outcome (trade_lots o r) r in
     let a : queued g (after_trade m (opposite o.side) (trade_lots o r) f.session.next_stamp r f.queues) ≡ queued g
     (after_outcome m (trade_lots o r) f.session.next_stamp r f.queues) = ap (queued g) (after_trade_trade o r f h k s) in
@@ -236,58 +236,58 @@ put_down g (trades o r) f h k s =
     let c : queued g (taken (Orders r.side) 0 f.queues) ≡ queued g (taken (Orders (opposite o.side)) 0 f.queues) = ap
     (λ (z : Side). queued g (taken (Orders z) 0 f.queues)) (rest_side o r f h k).0 in
     omega arith
-put_down g (rests o) f h k s = omega (arith, queued_put g o f.queues)
-put_down g (cancels_resting c n i r) f h k s = let m : of_incoming (g incoming) f.incoming ≡ 0 = ap (of_incoming (g incoming)) h.0 in omega arith
-put_down g (amends i o) f h k s =
+after_event g (rests o) f h k s = omega (arith, queued_put g o f.queues)
+after_event g (cancels_resting c n i r) f h k s = let m : of_incoming (g incoming) f.incoming ≡ 0 = ap (of_incoming (g incoming)) h.0 in omega arith
+after_event g (amends i o) f h k s =
     let m : of_incoming (g incoming) f.incoming ≡ 0 = ap (of_incoming (g incoming)) h.0.idle in
     let a : queued g (rewritten i (Standing o) f.queues) ≡ queued g (record_set i (Standing o) f.queues) = ap (queued g)
     (rewrites i h.0.was o f.queues h.0.there (sym (same_order_rank h.0.was o h.1))) in
     omega (arith, queued_set g i h.0.was o f.queues h.0.there)
-put_down g _ f h k s = omega arith
+after_event g _ f h k s = omega arith
 
 -- each event leaves good queues
 
 queues_outcome : (k : RestingOutcome) (lots stamp : ℕ) (r : Order) (q : Queues) → slice_get (at r.side q.stands) 0 ≡ Some r → ConsistentQueues q → ConsistentQueues (after_outcome k lots stamp r q)
-queues_outcome filled lots stamp r q e g = queues_cut r.side 0 r q e g
+queues_outcome filled lots stamp r q e g = queues_removed r.side 0 r q e g
 queues_outcome reduced lots stamp r q e g = queues_set 0 r (order_reduced lots r) q e (record { side = refl; price = refl; turn = refl; number = refl }) g
 queues_outcome refilled lots stamp r q e g =
     let s : Side = r.side in
     let l : List Order = remove (at s q.stands) 0 in
     queues_put (order_refilled stamp lots r) (taken (Orders s) 0 q)
-    (omega (arith, ap (λ l. suc (length l)) (at_own s l q.stands), length_taken (at s q.stands) 0 r e, g.bounded (Orders s)))
-    (all_nth (Sided s) (at s q.stands) 0 r e (g.sided s)).1 (clear_own s l q.stands (order_refilled stamp lots r)
-    (same_clear s q.stands r (order_refilled stamp lots r) refl (clear_nth s 0 r q e g))) (queues_cut s 0 r q e g)
+    (omega (arith, ap (λ l. suc (length l)) (at_own s l q.stands), length_removed (at s q.stands) 0 r e, g.bounded (Orders s)))
+    (all_nth (OnSide s) (at s q.stands) 0 r e (g.on_side s)).1 (crosses_none_own s l q.stands (order_refilled stamp lots r)
+    (same_crosses_none s q.stands r (order_refilled stamp lots r) refl (nth_crosses_none s 0 r q e g))) (queues_removed s 0 r q e g)
 
 queues_cancel : (n : Queue) (i : ℕ) (r : Record) (q : Queues) → RecordAt n i r q → ConsistentQueues q → ConsistentQueues (taken n i q)
-queues_cancel (Orders s) i r q h g = queues_cut s i h.0 q h.2 g
-queues_cancel (Stops s) i r q h g = queues_stop_cut s i h.0 q h.2 g
+queues_cancel (Orders s) i r q h g = queues_removed s i h.0 q h.2 g
+queues_cancel (Stops s) i r q h g = queues_stop_removed s i h.0 q h.2 g
 
 -- the incoming order has a price that a rank can tell, and shows as in trading
-abbrev pub Ready : Option Order → Type 0
-Ready None = Unit {0}
-Ready (Some o) = Low o.price × Shows o
+abbrev pub IncomingReady : Option Order → Type 0
+IncomingReady None = Unit {0}
+IncomingReady (Some o) = InPriceRange o.price × ShowsInFull o
 
-pub queues_apply : (e : Event) (f : MatchState) → MayApply e f → ConsistentQueues f.queues → Single f → Ready f.incoming → ConsistentQueues (apply e f).queues
-queues_apply (accepts_stop x) f h g s l = queues_stop_put x f.queues h.room_left h.arrives.low h.low g
+pub queues_apply : (e : Event) (f : MatchState) → MayApply e f → ConsistentQueues f.queues → NumbersUnique f → IncomingReady f.incoming → ConsistentQueues (apply e f).queues
+queues_apply (accepts_stop x) f h g s l = queues_stop_put x f.queues h.has_place h.enters.price_in_range h.price_in_range g
 queues_apply (trades o r) f h g s l = subst ConsistentQueues (sym (after_trade_trade o r f h g s)) (queues_outcome (outcome (trade_lots o r) r) (trade_lots o r) f.session.next_stamp r f.queues (own_first o r f h g) g)
-queues_apply (rests o) f h g s l = queues_put o f.queues h.room_left (subst Ready h.is_incoming l).0 (clear_beyond o o.side f.queues.stands h.beyond) g
-queues_apply (triggers z x) f h g s l = queues_stop_cut z 0 x f.queues h.1 g
+queues_apply (rests o) f h g s l = queues_put o f.queues h.has_place (subst IncomingReady h.is_incoming l).0 (none_within_crosses_none o o.side f.queues.stands h.none_match) g
+queues_apply (triggers z x) f h g s l = queues_stop_removed z 0 x f.queues h.1 g
 queues_apply (cancels_resting c n i r) f h g s l = queues_cancel n i r f.queues h.1 g
 queues_apply (amends i o) f h g s l =
     let x : Order = h.0.was in
     let p = h.1 in
     subst ConsistentQueues (sym (rewrites i x o f.queues h.0.there (sym (same_order_rank x o p)))) (queues_set i x o f.queues h.0.there p g)
-queues_apply (requeues z i o) f h g s l = queues_cut z i h.0.was f.queues h.0.there g
+queues_apply (requeues z i o) f h g s l = queues_removed z i h.0.was f.queues h.0.there g
 queues_apply _ f h g s l = g
 
-held_ready : (lots : ℕ) (o : Order) → lots ≤ o.open_lots → Low o.price → Ready (incoming_left lots o)
-held_ready lots o n h = incoming_left_cases lots o Ready n (λ _. tt) (λ more. (h, refilled_shows o.turn lots o more))
+incoming_left_ready : (lots : ℕ) (o : Order) → lots ≤ o.open_lots → InPriceRange o.price → IncomingReady (incoming_left lots o)
+incoming_left_ready lots o n h = incoming_left_cases lots o IncomingReady n (λ _. tt) (λ more. (h, refilled_shows o.turn lots o more))
 
-pub ready_apply : (e : Event) (f : MatchState) → MayApply e f → ConsistentQueues f.queues → Ready f.incoming → Ready (apply e f).incoming
-ready_apply (accepts o) f h g l = (h.low, h.shows)
-ready_apply (trades o r) f h g l = held_ready (trade_lots o r) o (omega arith) (subst Ready h.is_incoming l).0
-ready_apply (triggers z x) f h g l = ((all_nth (StopSided z) (at z f.queues.waits) 0 x h.1 (g.stops_sided z)).1, refilled_shows f.session.next_stamp 0 x.order (omega arith))
+pub ready_apply : (e : Event) (f : MatchState) → MayApply e f → ConsistentQueues f.queues → IncomingReady f.incoming → IncomingReady (apply e f).incoming
+ready_apply (accepts o) f h g l = (h.price_in_range, h.shows_in_full)
+ready_apply (trades o r) f h g l = incoming_left_ready (trade_lots o r) o (omega arith) (subst IncomingReady h.is_incoming l).0
+ready_apply (triggers z x) f h g l = ((all_nth (StopOnSide z) (at z f.queues.waits) 0 x h.1 (g.stops_on_side z)).1, refilled_shows f.session.next_stamp 0 x.order (omega arith))
 ready_apply (cancels_resting c n i r) f h g l = l
 ready_apply (amends i o) f h g l = l
-ready_apply (requeues z i o) f h g l = (h.0.changes.low, h.1)
+ready_apply (requeues z i o) f h g l = (h.0.changes.price_in_range, h.1)
 ready_apply _ f h g l = tt

@@ -26,11 +26,11 @@ use Rattle.matching.proofs.WeightFalls.{IfRefused, IsNext, is_next, run_events_n
 use Rattle.laws.specs.Tally.{incoming}
 use Rattle.laws.specs.WithinRoom.{outcome_put, PutDone, outcome_in_bounds, EventInBounds, WithinRoom, Trace, ended, then}
 use Rattle.laws.proofs.ConsistentQueues.{ConsistentQueues}
-use Rattle.laws.proofs.SumsOverOrders.{queued, of_incoming, one_of, put_new}
-use Rattle.laws.proofs.EventsApply.{Trades, Single, one_itself, put_back_done, rest_side}
-use Rattle.laws.proofs.LinesAndStamps.{Roomy, tape_is, stamp_is}
-use Rattle.laws.proofs.AccountsBalance.{absent}
-use Rattle.laws.proofs.RunsToRest.{Consistent, consistent_apply, Quiescent, next_may_apply, Enough, roomy_next, enough_next}
+use Rattle.laws.proofs.SumsOverOrders.{queued, of_incoming, with_number, put_new}
+use Rattle.laws.proofs.EventsApply.{MayTrade, NumbersUnique, counts_itself, put_back_done, rest_side}
+use Rattle.laws.proofs.LinesAndStamps.{RoomFor, tape_is, stamp_is}
+use Rattle.laws.proofs.AccountsBalance.{unused_nowhere}
+use Rattle.laws.proofs.RunsToRest.{Consistent, consistent_apply, Quiescent, next_may_run, RoomForRest, next_has_room, rest_has_room}
 
 pub trace-++ : {f g h : MatchState} → Trace f g → Trace g h → Trace f h
 trace-++ ended k = k
@@ -42,18 +42,18 @@ not_twice : (b : Bool) → ◌≡◌ {A = PutAnswer} (cond b (Ok tt) (Err Full))
 not_twice true e = let u : ◌≡◌ {A = ℕ} 0 1 = cc in omega arith
 not_twice false e = let u : ◌≡◌ {A = ℕ} 0 1 = cc in omega arith
 
-never_twice : (e : Record) (q : Queues) → queued (one_of (number_of e)) q ≡ 0 → put_answer e q ≡ Err Twice → ⊥
+never_twice : (e : Record) (q : Queues) → queued (with_number (number_of e)) q ≡ 0 → put_answer e q ≡ Err Twice → ⊥
 never_twice e q n k = not_twice (ltb (count (queue_of e) q) (capacity (queue_of e) q)) (sym (put_new e q n) ∙ k)
 
 -- the number incoming is in no queue
-pub incoming_alone : (f : MatchState) (o : Order) → f.incoming ≡ Some o → Single f → queued (one_of o.number) f.queues ≡ 0
-incoming_alone f o h s = let z : of_incoming (one_of o.number incoming) f.incoming ≡ one_of o.number incoming o = ap
-    (of_incoming (one_of o.number incoming)) h in omega (arith, s o.number, one_itself incoming o)
+pub incoming_alone : (f : MatchState) (o : Order) → f.incoming ≡ Some o → NumbersUnique f → queued (with_number o.number) f.queues ≡ 0
+incoming_alone f o h s = let z : of_incoming (with_number o.number incoming) f.incoming ≡ with_number o.number incoming o = ap
+    (of_incoming (with_number o.number incoming)) h in omega (arith, s o.number, counts_itself incoming o)
 
 -- the book takes what the next event puts
 
-well_trade : (o r : Order) (f : MatchState) → Trades o r f → ConsistentQueues f.queues → Single f → PutDone (trades o r) f
-well_trade o r f h g s =
+put_done_trade : (o r : Order) (f : MatchState) → MayTrade o r f → ConsistentQueues f.queues → NumbersUnique f → PutDone (trades o r) f
+put_done_trade o r f h g s =
     let d = (rest_side o r f h g).0 in
     subst (λ (z : Side). outcome_put (outcome (trade_lots o r) r) (trade_lots o r) f.session.next_stamp r (taken (Orders z) 0 f.queues)) d
     (go (outcome (trade_lots o r) r) (subst (λ (z : Side). slice_get (at z f.queues.stands) 0 ≡ Some r) (sym d) h.first))
@@ -62,14 +62,14 @@ well_trade o r f h g s =
     go refilled e = put_back_done r (order_refilled f.session.next_stamp (trade_lots o r) r) f refl refl e g s
     go _ e = tt
 
-refused_is_full : (c : Cause) (o : Order) (f : MatchState) → f.incoming ≡ Some o → Single f → IfRefused c o f.queues → PutDone (cancels_incoming c o) f
+refused_is_full : (c : Cause) (o : Order) (f : MatchState) → f.incoming ≡ Some o → NumbersUnique f → IfRefused c o f.queues → PutDone (cancels_incoming c o) f
 refused_is_full NotPut o f h s (Full, e) = e
 refused_is_full NotPut o f h s (Twice, e) = absurd (never_twice (Standing o) f.queues (incoming_alone f o h s) e)
 refused_is_full _ o f h s r = tt
 
 next_put_done : (e : Event) (f : MatchState) → IsNext e f → Consistent f → PutDone e f
-next_put_done (cancels_incoming c o) f h s = refused_is_full c o f h.0 s.counts.single h.1
-next_put_done (trades o r) f h s = well_trade o r f (next_may_apply (trades o r) f h s.queues).0 s.queues s.counts.single
+next_put_done (cancels_incoming c o) f h s = refused_is_full c o f h.0 s.accounted.numbers_unique h.1
+next_put_done (trades o r) f h s = put_done_trade o r f (next_may_run (trades o r) f h s.queues).0 s.queues s.accounted.numbers_unique
 next_put_done (rests o) f h s = h.1
 next_put_done (triggers z x) f h s = tt
 next_put_done _ f h s = absurd h
@@ -91,45 +91,45 @@ bounds_kept (triggers s x) f = in_bounds_from (with_lots f.session.next_stamp (x
     (refilled_fits f.session.next_stamp 0 x.order (omega arith))
 bounds_kept _ f = tt
 
-pub within_room : (e : Event) (f : MatchState) → Roomy e f → PutDone e f → WithinRoom e f
+pub within_room : (e : Event) (f : MatchState) → RoomFor e f → PutDone e f → WithinRoom e f
 within_room e f r p = record { lines_written = tape_is e f r; stamps_drawn = stamp_is e f r; put_done = p; in_bounds = bounds_kept e f }
 
-run_events_trace : (k : ℕ) (f : MatchState) → Consistent f → Enough f → Trace f (run_events k f)
+run_events_trace : (k : ℕ) (f : MatchState) → Consistent f → RoomForRest f → Trace f (run_events k f)
 run_events_trace zero f s h = subst (Trace f) (sym (run_events_zero f)) ended
 run_events_trace (suc k) f s h = go (next_event f) refl (run_events_trace k)
   where
-    go : (m : Option Event) → next_event f ≡ m → ((f : MatchState) → Consistent f → Enough f → Trace f (run_events k f)) → Trace f (run_events (suc k) f)
+    go : (m : Option Event) → next_event f ≡ m → ((f : MatchState) → Consistent f → RoomForRest f → Trace f (run_events k f)) → Trace f (run_events (suc k) f)
     go None n ih = subst (Trace f) (sym (run_events_next k f None n)) ended
     go (Some e) n ih =
         let i = is_next e f n in
-        let x = next_may_apply e f i s.queues in
+        let x = next_may_run e f i s.queues in
         let w = weight_falls e f n in
-        let r = roomy_next e f x.1 w h in
-        subst (Trace f) (sym (run_events_next k f (Some e) n)) (then e (within_room e f r (next_put_done e f i s)) (ih (apply e f) (consistent_apply e f x.0 r s) (enough_next e f x.1 w h)))
+        let r = next_has_room e f x.1 w h in
+        subst (Trace f) (sym (run_events_next k f (Some e) n)) (then e (within_room e f r (next_put_done e f i s)) (ih (apply e f) (consistent_apply e f x.0 r s) (rest_has_room e f x.1 w h)))
 
-pub run_to_rest_trace : (f : MatchState) → Consistent f → Enough f → Trace f (run_to_rest f)
+pub run_to_rest_trace : (f : MatchState) → Consistent f → RoomForRest f → Trace f (run_to_rest f)
 unfolding run_to_rest
 run_to_rest_trace f s h = run_events_trace (weight f) f s h
 
 -- an arrival puts well
 
-well_judged : (a : NewOrder) (o : Order) (f : MatchState) → PutDone (accepts_or_cancels a o f.queues) f
-well_judged a o f = cond_both (falls_short a o f.queues) (accepts_and_cancels ShortReach o) (accepts o) (λ e. PutDone e f) (λ _. tt) (λ _. tt)
+put_done_accepts_or_cancels : (a : NewOrder) (o : Order) (f : MatchState) → PutDone (accepts_or_cancels a o f.queues) f
+put_done_accepts_or_cancels a o f = cond_both (falls_short a o f.queues) (accepts_and_cancels ShortReach o) (accepts o) (λ e. PutDone e f) (λ _. tt) (λ _. tt)
 
-well_kind : (k : OrderType) (a : NewOrder) (f : MatchState) → Quiescent f → PutDone (arrival_as k a f.session.next_stamp f.queues) f
-well_kind (Limit price) a f c = well_judged a (entered_order a price f.session.next_stamp) f
-well_kind Market a f c = go (first_order (opposite a.side) f.queues)
+put_done_arrival_as : (k : OrderType) (a : NewOrder) (f : MatchState) → Quiescent f → PutDone (arrival_as k a f.session.next_stamp f.queues) f
+put_done_arrival_as (Limit price) a f c = put_done_accepts_or_cancels a (entered_order a price f.session.next_stamp) f
+put_done_arrival_as Market a f c = go (first_order (opposite a.side) f.queues)
   where
     go : (m : Option Order) → PutDone (market_arrival a f.session.next_stamp m f.queues) f
     go None = tt
-    go (Some r) = well_judged a (entered_order a r.price f.session.next_stamp) f
-well_kind (StopLimit limit trigger) a f c = go (put_answer (Waiting (entered_stop trigger (entered_order a limit f.session.next_stamp))) f.queues) refl
+    go (Some r) = put_done_accepts_or_cancels a (entered_order a r.price f.session.next_stamp) f
+put_done_arrival_as (StopLimit limit trigger) a f c = go (put_answer (Waiting (entered_stop trigger (entered_order a limit f.session.next_stamp))) f.queues) refl
   where
     go : (p : PutAnswer) → put_answer (Waiting (entered_stop trigger (entered_order a limit f.session.next_stamp))) f.queues ≡ p →
         PutDone (accepts_stop_or_cancels p (entered_stop trigger (entered_order a limit f.session.next_stamp))) f
     go (Ok _) e = e
     go (Err Full) e = (entered_stop trigger (entered_order a limit f.session.next_stamp), refl, e)
-    go (Err Twice) e = absurd (never_twice (Waiting (entered_stop trigger (entered_order a limit f.session.next_stamp))) f.queues (omega (arith, absent f c.consistent.counts f.session.next_stamp (omega arith))) e)
+    go (Err Twice) e = absurd (never_twice (Waiting (entered_stop trigger (entered_order a limit f.session.next_stamp))) f.queues (omega (arith, unused_nowhere f c.consistent.accounted f.session.next_stamp (omega arith))) e)
 
-pub well_arrival : (a : NewOrder) (f : MatchState) → Quiescent f → PutDone (arrival a f.session.next_stamp f.queues) f
-well_arrival a f c = well_kind a.order_type a f c
+pub put_done_arrival : (a : NewOrder) (f : MatchState) → Quiescent f → PutDone (arrival a f.session.next_stamp f.queues) f
+put_done_arrival a f c = put_done_arrival_as a.order_type a f c

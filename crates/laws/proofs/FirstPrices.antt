@@ -18,9 +18,9 @@ use Rattle.matching.specs.Running.{total}
 use Rattle.matching.specs.Reach.{better}
 use Rattle.laws.specs.Tally.{stands, incoming, Account, Tally, stands_on, better_of, first_price}
 use Rattle.laws.proofs.SortedLists.{Sorted}
-use Rattle.laws.proofs.ConsistentQueues.{ConsistentQueues, Low, Sided, price_same, ranks_lower}
+use Rattle.laws.proofs.ConsistentQueues.{ConsistentQueues, InPriceRange, OnSide, price_same, ranks_lower}
 use Rattle.laws.proofs.SumsOverOrders.{Measure, of_incoming, of_stop, everywhere, total_none}
-use Rattle.laws.proofs.TallyAgrees.{View, by_row, TallyAgrees, zero_one}
+use Rattle.laws.proofs.TallyAgrees.{RowMeasure, of_tally_row, TallyAgrees, counts_nothing}
 
 -- nobody that stands on a side passes a test that nobody of that queue passes
 
@@ -30,7 +30,7 @@ one_side Buy Sell b h = refl
 one_side Sell Buy b h = refl
 one_side Sell Sell b h = rw (h refl) refl
 
-none_in_queue : (z s : Side) (q : OrderRow → Bool) (l : List Order) → AllByRecursion (Sided s) l → (s ≡ z → AllByRecursion (λ x. q (row_of x) ≡ false) l) →
+none_in_queue : (z s : Side) (q : OrderRow → Bool) (l : List Order) → AllByRecursion (OnSide s) l → (s ≡ z → AllByRecursion (λ x. q (row_of x) ≡ false) l) →
     total (λ (x : Order). cond (same_side x.side z && q (row_of x)) 1 0) l ≡ 0
 none_in_queue z s q [] d h = refl
 none_in_queue z s q (x ∷ l) d h =
@@ -39,16 +39,16 @@ none_in_queue z s q (x ∷ l) d h =
     omega (arith, none_in_queue z s q l d.1 (λ e. (h e).1))
 
 pub none_stands : (z : Side) (q : OrderRow → Bool) (f : MatchState) → ConsistentQueues f.queues → AllByRecursion (λ x. q (row_of x) ≡ false) (at z f.queues.stands) →
-    everywhere (by_row (λ p r. cond (stands_on z p r && q r) 1 0)) f ≡ 0
+    everywhere (of_tally_row (λ p r. cond (stands_on z p r && q r) 1 0)) f ≡ 0
 none_stands z q f g h =
-    let k : View = λ p r. cond (stands_on z p r && q r) 1 0 in
-    let a : total (by_row k stands) f.queues.stands.buy ≡ 0 = none_in_queue z Buy q f.queues.stands.buy (g.sided Buy)
+    let k : RowMeasure = λ p r. cond (stands_on z p r && q r) 1 0 in
+    let a : total (of_tally_row k stands) f.queues.stands.buy ≡ 0 = none_in_queue z Buy q f.queues.stands.buy (g.on_side Buy)
     (λ e. subst (λ (s : Side). AllByRecursion (λ x. q (row_of x) ≡ false) (at s f.queues.stands)) (sym e) h) in
-    let b : total (by_row k stands) f.queues.stands.sell ≡ 0 = none_in_queue z Sell q f.queues.stands.sell (g.sided Sell)
+    let b : total (of_tally_row k stands) f.queues.stands.sell ≡ 0 = none_in_queue z Sell q f.queues.stands.sell (g.on_side Sell)
     (λ e. subst (λ (s : Side). AllByRecursion (λ x. q (row_of x) ≡ false) (at s f.queues.stands)) (sym e) h) in
-    let c : total (of_stop (by_row k)) f.queues.waits.buy ≡ 0 = total_none f.queues.waits.buy in
-    let d : total (of_stop (by_row k)) f.queues.waits.sell ≡ 0 = total_none f.queues.waits.sell in
-    let e : of_incoming (by_row k incoming) f.incoming ≡ 0 = at_incoming f.incoming in
+    let c : total (of_stop (of_tally_row k)) f.queues.waits.buy ≡ 0 = total_none f.queues.waits.buy in
+    let d : total (of_stop (of_tally_row k)) f.queues.waits.sell ≡ 0 = total_none f.queues.waits.sell in
+    let e : of_incoming (of_tally_row k incoming) f.incoming ≡ 0 = at_incoming f.incoming in
     omega arith
   where
     at_incoming : (m : Option Order) → of_incoming (λ _. 0) m ≡ 0
@@ -72,29 +72,29 @@ count_if s q l = total (λ a. cond (stands_on s a.status a.order && q a.order.pr
 first_none : (s : Side) (l : List Account) → count_if s (λ _. true) l ≡ 0 → first_price s l ≡ None
 first_none s [] e = refl
 first_none s (a ∷ l) e = cond-false (stands_on s a.status a.order) (Some (better_of s a.order.price (first_price s l))) (first_price s l)
-    (and_true (stands_on s a.status a.order) (zero_one (stands_on s a.status a.order && true) (omega arith))) ∙ first_none s l (omega arith)
+    (and_true (stands_on s a.status a.order) (counts_nothing (stands_on s a.status a.order && true) (omega arith))) ∙ first_none s l (omega arith)
   where
     and_true : (b : Bool) → (b && true) ≡ false → b ≡ false
     and_true false e = refl
     and_true true e = e
 
-abbrev AtMost : Side → Price → Option Price → Type 0
-AtMost s p None = Unit {0}
-AtMost s p (Some q) = better s q p ≡ false
+abbrev NoBetter : Side → Price → Option Price → Type 0
+NoBetter s p None = Unit {0}
+NoBetter s p (Some q) = better s q p ≡ false
 
-first_bound : (s : Side) (p : Price) (l : List Account) → count_if s (λ q. better s q p) l ≡ 0 → AtMost s p (first_price s l)
+first_bound : (s : Side) (p : Price) (l : List Account) → count_if s (λ q. better s q p) l ≡ 0 → NoBetter s p (first_price s l)
 first_bound s p [] e = tt
 first_bound s p (a ∷ l) e =
     let ih = first_bound s p l (omega arith) in
-    let z = zero_one (stands_on s a.status a.order && better s a.order.price p) (omega arith) in
-    cond_both (stands_on s a.status a.order) (Some (better_of s a.order.price (first_price s l))) (first_price s l) (AtMost s p)
+    let z = counts_nothing (stands_on s a.status a.order && better s a.order.price p) (omega arith) in
+    cond_both (stands_on s a.status a.order) (Some (better_of s a.order.price (first_price s l))) (first_price s l) (NoBetter s p)
     (λ k. go (first_price s l) ih (and_left_true (stands_on s a.status a.order) (better s a.order.price p) k z)) (λ _. ih)
   where
     and_left_true : (b c : Bool) → b ≡ true → (b && c) ≡ false → c ≡ false
     and_left_true true c k z = z
     and_left_true false c k z = absurd (both_ways false refl k)
 
-    go : (m : Option Price) → AtMost s p m → better s a.order.price p ≡ false → AtMost s p (Some (better_of s a.order.price m))
+    go : (m : Option Price) → NoBetter s p m → better s a.order.price p ≡ false → NoBetter s p (Some (better_of s a.order.price m))
     go None h k = k
     go (Some q) h k = cond_both (better s q a.order.price) q a.order.price (λ n. better s n p ≡ false) (λ _. h) (λ _. k)
 
@@ -104,18 +104,18 @@ better_apart Sell a p h k = grind (arith, nat_tests)
 
 first_is : (s : Side) (p : Price) (l : List Account) → count_if s (λ q. better s q p) l ≡ 0 → 1 ≤ count_if s (λ q. same_price q p) l → first_price s l ≡ Some p
 first_is s p [] e h = absurd (omega arith)
-first_is s p (a ∷ l) e h = go (stands_on s a.status a.order) refl (zero_one (stands_on s a.status a.order && better s a.order.price p)
+first_is s p (a ∷ l) e h = go (stands_on s a.status a.order) refl (counts_nothing (stands_on s a.status a.order && better s a.order.price p)
     (omega arith)) (first_is s p l (omega arith)) (first_bound s p l (omega arith)) h
   where
     pr : Price
     pr = a.order.price
 
-    first : (m : Option Price) → AtMost s p m → better_of s p m ≡ p
+    first : (m : Option Price) → NoBetter s p m → better_of s p m ≡ p
     first None k = refl
     first (Some q) k = cond-false (better s q p) q p k
 
     go : (b : Bool) → stands_on s a.status a.order ≡ b → (b && better s a.order.price p) ≡ false →
-        (1 ≤ count_if s (λ q. same_price q p) l → first_price s l ≡ Some p) → AtMost s p (first_price s l) →
+        (1 ≤ count_if s (λ q. same_price q p) l → first_price s l ≡ Some p) → NoBetter s p (first_price s l) →
         1 ≤ cond (stands_on s a.status a.order && same_price a.order.price p) 1 0 + count_if s (λ q. same_price q p) l →
         cond b (Some (better_of s a.order.price (first_price s l))) (first_price s l) ≡ Some p
     go false k z ih bound n = ih (let n' : 1 ≤ 0 + count_if s (λ q. same_price q p) l = subst
@@ -131,40 +131,40 @@ first_is s p (a ∷ l) e h = go (stands_on s a.status a.order) refl (zero_one (s
 
 -- no order of a queue is priced better than its first
 
-no_better_key : (s : Side) (p q : Price) → Low p → Low q → order_key s p ≤ order_key s q → better s q p ≡ false
-no_better_key Buy p q lp lq h = le-ltb (level p) (level q) (omega arith)
-no_better_key Sell p q lp lq h = le-ltb (level q) (level p) (omega arith)
+not_better_key : (s : Side) (p q : Price) → InPriceRange p → InPriceRange q → order_key s p ≤ order_key s q → better s q p ≡ false
+not_better_key Buy p q lp lq h = le-ltb (level p) (level q) (omega arith)
+not_better_key Sell p q lp lq h = le-ltb (level q) (level p) (omega arith)
 
-pub none_better : (s : Side) (r : Order) (l : List Order) → Sided s r → AllByRecursion (Sided s) l → AllByRecursion (λ y. ranks_ahead (rank_of y) (rank_of r) ≡ false) l →
+pub none_better : (s : Side) (r : Order) (l : List Order) → OnSide s r → AllByRecursion (OnSide s) l → AllByRecursion (λ y. ranks_ahead (rank_of y) (rank_of r) ≡ false) l →
     AllByRecursion (λ (x : Order). better s x.price r.price ≡ false) l
 none_better s r [] dr d h = tt
 none_better s r (x ∷ l) dr d h =
     let k : order_key r.side r.price ≤ order_key x.side x.price = ranks_lower (rank_of r) (rank_of x) h.0 in (
-      no_better_key s r.price x.price dr.1 d.0.1
+      not_better_key s r.price x.price dr.1 d.0.1
           (subst (λ (z : Side). order_key s r.price ≤ order_key z x.price) d.0.0 (subst (λ (z : Side). order_key z r.price ≤ order_key x.side x.price) dr.0 k)),
       none_better s r l dr d.1 h.1,
     )
 
-abbrev pub first_of : List Order → Option Price
-first_of [] = None
-first_of (r ∷ l) = Some r.price
+abbrev pub price_of_first : List Order → Option Price
+price_of_first [] = None
+price_of_first (r ∷ l) = Some r.price
 
 side_itself : (z : Side) → same_side z z ≡ true
 side_itself Buy = refl
 side_itself Sell = refl
 
-pub first_price_is : (s : Side) (f : MatchState) (t : Tally) → ConsistentQueues f.queues → TallyAgrees t f → first_price s t.accounts ≡ first_of (at s f.queues.stands)
+pub first_price_is : (s : Side) (f : MatchState) (t : Tally) → ConsistentQueues f.queues → TallyAgrees t f → first_price s t.accounts ≡ price_of_first (at s f.queues.stands)
 first_price_is s f t g m = go (at s f.queues.stands) refl
   where
-    go : (l : List Order) → at s f.queues.stands ≡ l → first_price s t.accounts ≡ first_of l
+    go : (l : List Order) → at s f.queues.stands ≡ l → first_price s t.accounts ≡ price_of_first l
     go [] e = first_none s t.accounts (m.sums (λ p r. cond (stands_on s p r && true) 1 0) ∙ none_stands s (λ _. true) f g (subst (AllByRecursion (λ (x : Order). true ≡ false)) (sym e) tt))
     go (r ∷ rest) e =
         let p : Price = r.price in
-        let d = subst (AllByRecursion (Sided s)) e (g.sided s) in
+        let d = subst (AllByRecursion (OnSide s)) e (g.on_side s) in
         let o = subst (Sorted rank_of) e (g.sorted s) in
-        let w : View = λ q x. cond (stands_on s q x && same_price x.price p) 1 0 in
-        let one : by_row w stands r ≡ 1 = rw (d.0.0, side_itself s, eq-eqb (level p) (level p) refl) refl in
+        let w : RowMeasure = λ q x. cond (stands_on s q x && same_price x.price p) 1 0 in
+        let one : of_tally_row w stands r ≡ 1 = rw (d.0.0, side_itself s, eq-eqb (level p) (level p) refl) refl in
         first_is s p t.accounts
         (m.sums (λ q x. cond (stands_on s q x && better s x.price p) 1 0) ∙ none_stands s (λ x. better s x.price p) f g
         (subst (AllByRecursion (λ (x : Order). better s x.price p ≡ false)) (sym e) (better_itself s p, none_better s r rest d.0 d.1 o.0)))
-        (omega (arith, m.sums w, some_stands (by_row w) s r rest f e))
+        (omega (arith, m.sums w, some_stands (of_tally_row w) s r rest f e))

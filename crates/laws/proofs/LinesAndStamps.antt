@@ -15,7 +15,7 @@ abbrev pub tape : MatchState → List Line
 tape f = f.tape.lines
 
 -- an event finds a free line for each that it writes, and an undrawn stamp
-pub record Roomy (e : Event) (f : MatchState) : Type 0 where
+pub record RoomFor (e : Event) (f : MatchState) : Type 0 where
   pub free_lines : length (event_lines e) + length (tape f) ≤ f.tape.limit
   pub free_stamps : 1 ≤ event_stamps e → f.session.next_stamp < 1000000000
 
@@ -27,7 +27,7 @@ two_lines l k r h =
     let e : (line_added k r).lines ≡ k ∷ r.lines = one_line k r (omega arith) in
     one_line l (line_added k r) (rw e (omega arith)) ∙ ap (λ m. l ∷ m) e
 
-pub tape_is : (e : Event) (f : MatchState) → Roomy e f → tape (apply e f) ≡ event_lines e ++ tape f
+pub tape_is : (e : Event) (f : MatchState) → RoomFor e f → tape (apply e f) ≡ event_lines e ++ tape f
 tape_is (accepts o) f h = one_line (line_A o) f.tape (omega (arith, h.free_lines))
 tape_is (accepts_stop x) f h = one_line (line_A x.order) f.tape (omega (arith, h.free_lines))
 tape_is (accepts_and_cancels c o) f h = two_lines (line_C c o) (line_A o) f.tape (omega (arith, h.free_lines))
@@ -47,7 +47,7 @@ drawn_is : (k : RestingOutcome) (c : Session) → (1 ≤ outcome_stamps k → c.
 drawn_is refilled c h = one_stamp c.next_stamp (h (omega arith))
 drawn_is _ c h = omega arith
 
-pub stamp_is : (e : Event) (f : MatchState) → Roomy e f → (apply e f).session.next_stamp ≡ f.session.next_stamp + event_stamps e
+pub stamp_is : (e : Event) (f : MatchState) → RoomFor e f → (apply e f).session.next_stamp ≡ f.session.next_stamp + event_stamps e
 stamp_is (cancels_incoming c o) f h = omega arith
 stamp_is (trades o r) f h = drawn_is (outcome (trade_lots o r) r) f.session h.free_stamps
 stamp_is (rests o) f h = omega arith

@@ -14,11 +14,11 @@ use Rattle.laws.specs.OneStep.{StepWithinRoom, StepFilled}
 use Rattle.laws.proofs.WholeRuns.{always_within_room}
 use Rattle.laws.proofs.WholeOrNone.{always_filled}
 
-pub smoothly : (form : Form) (s : State) → StepWithinRoom form s
-smoothly form s day stamp q limit forms e = subst (λ (s : State). Trace (state_between_steps s) (state_between_steps (step form s))) (sym e) (always_within_room day stamp q limit forms form)
+pub step_within_room : (form : Form) (s : State) → StepWithinRoom form s
+step_within_room form s day stamp q limit forms e = subst (λ (s : State). Trace (state_between_steps s) (state_between_steps (step form s))) (sym e) (always_within_room day stamp q limit forms form)
 
-pub filled_by : (form : Form) (s : State) → StepFilled form s
-filled_by (Entry form) s = λ day stamp q limit forms e.
+pub step_filled : (form : Form) (s : State) → StepFilled form s
+step_filled (Entry form) s = λ day stamp q limit forms e.
     subst (λ (s : State). (a : NewOrder) → validate_entry form ≡ Ok a → answer (Entry form) s ≡ Ok tt → Filled a (total (traded_lots (session_of s.day).next_stamp) (step (Entry form) s).tape.lines)) (sym e)
     (λ a h k. always_filled day stamp q limit forms form a h k)
-filled_by _ s = tt
+step_filled _ s = tt

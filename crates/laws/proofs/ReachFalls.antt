@@ -20,7 +20,7 @@ use Rattle.matching.specs.Reach.{better, own, own_price, counts, counted_open_lo
 use Rattle.matching.proofs.PartsFall.{parts_least, parts_refilled}
 use Rattle.laws.specs.Reaching.{front_traded, unlimited_trade}
 use Rattle.laws.proofs.SortedLists.{Sorted, put_in_cons, total_put_in, all_put_in, sorted_put_in}
-use Rattle.laws.proofs.ConsistentQueues.{Low, Sided, Beyond, beyond_first, price_same, ranks_lower}
+use Rattle.laws.proofs.ConsistentQueues.{InPriceRange, OnSide, NoneWithinLimit, none_within_limit, price_same, ranks_lower}
 use Rattle.laws.proofs.RowsInBounds.{refilled_row}
 use Rattle.laws.proofs.FirstPrices.{none_better, better_itself}
 
@@ -38,15 +38,15 @@ none_open o m [] h = refl
 none_open o m (r ∷ l) h = let z : cond (counts o m r) r.open_lots 0 ≡ 0 = cond-false (counts o m r) r.open_lots 0 h.0 in omega (arith, none_open o m l h.1)
 
 -- nobody is within the limit
-no_own : (o : Order) (l : List Order) → Beyond o.side o.price l → own_price o l ≡ None
+no_own : (o : Order) (l : List Order) → NoneWithinLimit o.side o.price l → own_price o l ≡ None
 no_own o [] h = refl
 no_own o (r ∷ l) h = cond-false (own o r) (Some r.price) (own_price o l) (and_right (same_investor o r) (within_limit o.side o.price r.price) h.0) ∙ no_own o l h.1
 
-pub reach_beyond : (o : Order) (l : List Order) → Beyond o.side o.price l → reach o l ≡ 0
-reach_beyond o l h = ap (λ m. reach_by m o l) (no_own o l h) ∙ none_open o None l h
+pub reach_none_within : (o : Order) (l : List Order) → NoneWithinLimit o.side o.price l → reach o l ≡ 0
+reach_none_within o l h = ap (λ m. reach_by m o l) (no_own o l h) ∙ none_open o None l h
 
 -- the first is of the own investor
-pub reach_own : (o r : Order) (l : List Order) → own o r ≡ true → Sorted rank_of (r ∷ l) → AllByRecursion (Sided (opposite o.side)) (r ∷ l) → reach o (r ∷ l) ≡ 0
+pub reach_own : (o r : Order) (l : List Order) → own o r ≡ true → Sorted rank_of (r ∷ l) → AllByRecursion (OnSide (opposite o.side)) (r ∷ l) → reach o (r ∷ l) ≡ 0
 reach_own o r l e h d =
     let p : Price = r.price in
     let z : Side = opposite o.side in
@@ -76,7 +76,7 @@ shown_apart o x p (y ∷ l) e k =
     (λ _. ap (λ n. cond (own o y) 0 (cond (same_price y.price p) y.shown 0 + n)) (shown_apart o x p l e k))
 
 -- who stands before the first of the own investor is priced no worse
-own_behind : (z : Side) (o : Order) (p : Price) (k : Rank) (l : List Order) → own_price o l ≡ Some p → AllByRecursion (Sided z) l →
+own_behind : (z : Side) (o : Order) (p : Price) (k : Rank) (l : List Order) → own_price o l ≡ Some p → AllByRecursion (OnSide z) l →
     AllByRecursion (λ y. ranks_ahead (rank_of y) k ≡ false) l → k.key ≤ order_key z p
 own_behind z o p k [] e d h = let u : ◌≡◌ {A = ℕ} 0 1 = cc in absurd (omega arith)
 own_behind z o p k (y ∷ l) e d h = go (own o y) e (λ q. own_behind z o p k l q d.1 h.1)
@@ -92,7 +92,7 @@ behind_all : (a b : Rank) → b.key ≤ a.key → b.turn < a.turn → ranks_ahea
 behind_all a b h k = grind (arith, nat_tests)
 
 -- an order that goes behind its price goes behind the first of the own investor there
-shown_behind : (z : Side) (o x : Order) (p : Price) (l : List Order) → own_price o l ≡ Some p → Sorted rank_of l → AllByRecursion (Sided z) l →
+shown_behind : (z : Side) (o x : Order) (p : Price) (l : List Order) → own_price o l ≡ Some p → Sorted rank_of l → AllByRecursion (OnSide z) l →
     AllByRecursion (λ (y : Order). y.turn < x.turn) l → order_key x.side x.price ≡ order_key z p →
     shown_ahead o p (put_by_rank rank_of x l) ≡ shown_ahead o p l
 shown_behind z o x p [] e h d t k = let u : ◌≡◌ {A = ℕ} 0 1 = cc in absurd (omega arith)
@@ -108,7 +108,7 @@ shown_behind z o x p (y ∷ l) e h d t k = go (own o y) refl e (shown_behind z o
     own_key q = subst (λ (u : Price). order_key y.side y.price ≤ order_key z u) q (subst (λ (s : Side). order_key y.side y.price ≤ order_key s y.price) d.0.0 (omega arith))
 
     go : (b : Bool) → own o y ≡ b → cond b (Some y.price) (own_price o l) ≡ Some p →
-        (own_price o l ≡ Some p → Sorted rank_of l → AllByRecursion (Sided z) l → AllByRecursion (λ (y : Order). y.turn < x.turn) l → order_key x.side
+        (own_price o l ≡ Some p → Sorted rank_of l → AllByRecursion (OnSide z) l → AllByRecursion (λ (y : Order). y.turn < x.turn) l → order_key x.side
         x.price ≡ order_key z p → shown_ahead o p (put_by_rank rank_of x l) ≡ shown_ahead o p l) →
         shown_ahead o p (put_by_rank rank_of x (y ∷ l)) ≡ shown_ahead o p (y ∷ l)
     go true w q ih =
@@ -121,7 +121,7 @@ shown_behind z o x p (y ∷ l) e h d t k = go (own o y) refl e (shown_behind z o
         ap (shown_ahead o p) (passes b) ∙ ap (λ n. cond (own o y) 0 (cond (same_price y.price p) y.shown 0 + n)) (ih q h.1 d.1 t.1 k)
 
 -- of two keys, the lower or an equal one
-better_or_same : (s : Side) (p q : Price) → Low p → Low q → order_key s p ≤ order_key s q → (better s p q ≡ true) ⊎ (level p ≡ level q)
+better_or_same : (s : Side) (p q : Price) → InPriceRange p → InPriceRange q → order_key s p ≤ order_key s q → (better s p q ≡ true) ⊎ (level p ≡ level q)
 better_or_same Buy p q lp lq h = ⊎_elim (λ (e : level p ≡ level q). inr e) (λ (e : level p ≡ level q → ⊥). inl (lt-ltb (level q) (level p) (omega arith))) (cases_eq (level p) (level q))
 better_or_same Sell p q lp lq h = ⊎_elim (λ (e : level p ≡ level q). inr e) (λ (e : level p ≡ level q → ⊥). inl (lt-ltb (level p) (level q) (omega arith))) (cases_eq (level p) (level q))
 
@@ -129,18 +129,18 @@ better_not_same : (s : Side) (p q : Price) → better s p q ≡ true → same_pr
 better_not_same Buy p q h = grind (arith, nat_tests)
 better_not_same Sell p q h = grind (arith, nat_tests)
 
-own_low : (z : Side) (o : Order) (p : Price) (l : List Order) → own_price o l ≡ Some p → AllByRecursion (Sided z) l → Low p
-own_low z o p [] e d = let u : ◌≡◌ {A = ℕ} 0 1 = cc in absurd (omega arith)
-own_low z o p (y ∷ l) e d = go (own o y) e (λ q. own_low z o p l q d.1)
+own_in_range : (z : Side) (o : Order) (p : Price) (l : List Order) → own_price o l ≡ Some p → AllByRecursion (OnSide z) l → InPriceRange p
+own_in_range z o p [] e d = let u : ◌≡◌ {A = ℕ} 0 1 = cc in absurd (omega arith)
+own_in_range z o p (y ∷ l) e d = go (own o y) e (λ q. own_in_range z o p l q d.1)
   where
-    go : (b : Bool) → cond b (Some y.price) (own_price o l) ≡ Some p → (own_price o l ≡ Some p → Low p) → Low p
-    go true q ih = subst Low (let u : y.price ≡ p = cc in u) d.0.1
+    go : (b : Bool) → cond b (Some y.price) (own_price o l) ≡ Some p → (own_price o l ≡ Some p → InPriceRange p) → InPriceRange p
+    go true q ih = subst InPriceRange (let u : y.price ≡ p = cc in u) d.0.1
     go false q ih = ih q
 
 -- what is traded with the first comes off the reach
 
 module _ (o r : Order) (l : List Order) (turn : ℕ) (w : within_limit o.side o.price r.price ≡ true) (n : same_investor o r ≡ false)
-    (h : Sorted rank_of (r ∷ l)) (d : AllByRecursion (Sided (opposite o.side)) (r ∷ l)) (t : AllByRecursion (λ (y : Order). y.turn < turn) l) where
+    (h : Sorted rank_of (r ∷ l)) (d : AllByRecursion (OnSide (opposite o.side)) (r ∷ l)) (t : AllByRecursion (λ (y : Order). y.turn < turn) l) where
   not_own : own o r ≡ false
   not_own = and_left (same_investor o r) (within_limit o.side o.price r.price) n
 
@@ -151,9 +151,9 @@ module _ (o r : Order) (l : List Order) (turn : ℕ) (w : within_limit o.side o.
   ahead_is p = cond-false (own o r) 0 (cond (same_price r.price p) r.shown 0 + shown_ahead o p l) not_own
 
   -- all that it shows is all that it has open
-  gone_by : (m : Option Price) → own_price o l ≡ m → r.open_lots ≡ r.shown → reach_by m o l + r.shown ≡ reach_by m o (r ∷ l)
-  gone_by None e k = let a : cond (within_limit o.side o.price r.price) r.open_lots 0 ≡ r.open_lots = cond-true (within_limit o.side o.price r.price) r.open_lots 0 w in omega arith
-  gone_by (Some p) e k = ⊎_elim
+  reach_by_filled : (m : Option Price) → own_price o l ≡ m → r.open_lots ≡ r.shown → reach_by m o l + r.shown ≡ reach_by m o (r ∷ l)
+  reach_by_filled None e k = let a : cond (within_limit o.side o.price r.price) r.open_lots 0 ≡ r.open_lots = cond-true (within_limit o.side o.price r.price) r.open_lots 0 w in omega arith
+  reach_by_filled (Some p) e k = ⊎_elim
       (λ (b : better (opposite o.side) r.price p ≡ true).
       let a : cond (counts o (Some p) r) r.open_lots 0 ≡ r.open_lots = cond-true (counts o (Some p) r) r.open_lots 0 b in
       let c : cond (same_price r.price p) r.shown 0 ≡ 0 = cond-false (same_price r.price p) r.shown 0 (better_not_same (opposite o.side) r.price p b) in
@@ -163,17 +163,17 @@ module _ (o r : Order) (l : List Order) (turn : ℕ) (w : within_limit o.side o.
       (subst (λ (u : Price). better (opposite o.side) u p ≡ false) (sym (price_same r.price p b)) (better_itself (opposite o.side) p)) in
       let c : cond (same_price r.price p) r.shown 0 ≡ r.shown = cond-true (same_price r.price p) r.shown 0 (eq-eqb (level r.price) (level p) b) in
       omega (arith, ahead_is p))
-      (better_or_same (opposite o.side) r.price p d.0.1 (own_low (opposite o.side) o p l e d.1)
+      (better_or_same (opposite o.side) r.price p d.0.1 (own_in_range (opposite o.side) o p l e d.1)
       (subst (λ (s : Side). order_key s r.price ≤ order_key (opposite o.side) p) d.0.0 (own_behind (opposite o.side) o p (rank_of r) l e d.1 h.0)))
 
-  again_by : (m : Option Price) → own_price o l ≡ m → r.shown < r.open_lots → reach_by m o (put_by_rank rank_of (order_refilled turn r.shown r) l) + r.shown ≡ reach_by m o (r ∷ l)
-  again_by None e k =
+  reach_by_refilled : (m : Option Price) → own_price o l ≡ m → r.shown < r.open_lots → reach_by m o (put_by_rank rank_of (order_refilled turn r.shown r) l) + r.shown ≡ reach_by m o (r ∷ l)
+  reach_by_refilled None e k =
       let y : Order = order_refilled turn r.shown r in
       let v : y.open_lots ≡ r.open_lots - r.shown = ap (λ (q : OrderRow). q.open_lots) (refilled_row turn r.shown r k) in
       let a : cond (within_limit o.side o.price r.price) r.open_lots 0 ≡ r.open_lots = cond-true (within_limit o.side o.price r.price) r.open_lots 0 w in
       let b : cond (within_limit o.side o.price r.price) y.open_lots 0 ≡ y.open_lots = cond-true (within_limit o.side o.price r.price) y.open_lots 0 w in
       omega (arith, open_put o None y l)
-  again_by (Some p) e k =
+  reach_by_refilled (Some p) e k =
       let y : Order = order_refilled turn r.shown r in
       let v : y.open_lots ≡ r.open_lots - r.shown = ap (λ (q : OrderRow). q.open_lots) (refilled_row turn r.shown r k) in
       ⊎_elim
@@ -191,23 +191,23 @@ module _ (o r : Order) (l : List Order) (turn : ℕ) (w : within_limit o.side o.
       let c : cond (same_price r.price p) r.shown 0 ≡ r.shown = cond-true (same_price r.price p) r.shown 0 (eq-eqb (level r.price) (level p) b) in
       let key : order_key r.side r.price ≡ order_key (opposite o.side) p = ap (λ (s : Side). order_key s r.price) d.0.0 ∙ ap (order_key (opposite o.side)) q in
       omega (arith, ahead_is p, open_put o (Some p) y l, shown_behind (opposite o.side) o y p l e h.1 d.1 t key))
-      (better_or_same (opposite o.side) r.price p d.0.1 (own_low (opposite o.side) o p l e d.1)
+      (better_or_same (opposite o.side) r.price p d.0.1 (own_in_range (opposite o.side) o p l e d.1)
       (subst (λ (s : Side). order_key s r.price ≤ order_key (opposite o.side) p) d.0.0 (own_behind (opposite o.side) o p (rank_of r) l e d.1 h.0)))
 
-  pub reach_gone : r.open_lots ≡ r.shown → reach o l + r.shown ≡ reach o (r ∷ l)
-  reach_gone k = gone_by (own_price o l) refl k ∙ sym (ap (λ m. reach_by m o (r ∷ l)) first_is)
+  pub reach_filled : r.open_lots ≡ r.shown → reach o l + r.shown ≡ reach o (r ∷ l)
+  reach_filled k = reach_by_filled (own_price o l) refl k ∙ sym (ap (λ m. reach_by m o (r ∷ l)) first_is)
 
-  pub reach_again : r.shown < r.open_lots → reach o (put_by_rank rank_of (order_refilled turn r.shown r) l) + r.shown ≡ reach o (r ∷ l)
-  reach_again k =
+  pub reach_refilled : r.shown < r.open_lots → reach o (put_by_rank rank_of (order_refilled turn r.shown r) l) + r.shown ≡ reach o (r ∷ l)
+  reach_refilled k =
       let y : Order = order_refilled turn r.shown r in
       let a : reach o (put_by_rank rank_of y l) ≡ reach_by (own_price o l) o (put_by_rank rank_of y l) = ap (λ m. reach_by m o (put_by_rank rank_of y l)) (own_put o y l not_own) in
       let b : reach_by (own_price o l) o (r ∷ l) ≡ reach o (r ∷ l) = sym (ap (λ m. reach_by m o (r ∷ l)) first_is) in
-      omega (arith, again_by (own_price o l) refl k)
+      omega (arith, reach_by_refilled (own_price o l) refl k)
 
   pub reach_front_traded : reach o (front_traded turn r l) + r.shown ≡ reach o (r ∷ l)
   reach_front_traded = cond_both (eqb r.open_lots r.shown) l (put_by_rank rank_of (order_refilled turn r.shown r) l) (λ k. reach o k + r.shown ≡ reach o (r ∷ l))
-      (λ e. reach_gone (eqb-true r.open_lots r.shown e))
-      (λ e. let z = eqb-false r.open_lots r.shown e in reach_again (omega arith))
+      (λ e. reach_filled (eqb-true r.open_lots r.shown e))
+      (λ e. let z = eqb-false r.open_lots r.shown e in reach_refilled (omega arith))
 
 -- what is left of a queue keeps its order, its side and its turns
 
@@ -224,29 +224,29 @@ no_parts : (o : Order) (l : List Order) → total parts l ≤ 0 → reach o l �
 no_parts o [] h = refl
 no_parts o (r ∷ l) h = absurd (omega (arith, parts_least r))
 
-pub reach_endless : (k turn : ℕ) (o : Order) (l : List Order) → Sorted rank_of l → AllByRecursion (Sided (opposite o.side)) l → AllByRecursion (λ (y : Order). y.turn < turn) l →
+pub reach_is_unlimited_trade : (k turn : ℕ) (o : Order) (l : List Order) → Sorted rank_of l → AllByRecursion (OnSide (opposite o.side)) l → AllByRecursion (λ (y : Order). y.turn < turn) l →
     total parts l ≤ k → reach o l ≡ unlimited_trade k turn o l
-reach_endless zero turn o l h d t m = no_parts o l m
-reach_endless (suc k) turn o [] h d t m = refl
-reach_endless (suc k) turn o (r ∷ l) h d t m =
+reach_is_unlimited_trade zero turn o l h d t m = no_parts o l m
+reach_is_unlimited_trade (suc k) turn o [] h d t m = refl
+reach_is_unlimited_trade (suc k) turn o (r ∷ l) h d t m =
     cond_both (not (within_limit o.side o.price r.price)) 0 (cond (same_investor o r) 0 (r.shown + unlimited_trade k (suc turn) o (front_traded turn r l))) (λ n. reach o (r ∷ l) ≡ n)
-    (λ e. reach_beyond o (r ∷ l) (beyond_first o.side o.price r l h d (not-true (within_limit o.side o.price r.price) e)))
+    (λ e. reach_none_within o (r ∷ l) (none_within_limit o.side o.price r l h d (not-true (within_limit o.side o.price r.price) e)))
     (λ e. let w = not-false (within_limit o.side o.price r.price) e in
     cond_both (same_investor o r) 0 (r.shown + unlimited_trade k (suc turn) o (front_traded turn r l)) (λ n. reach o (r ∷ l) ≡ n)
     (λ i. reach_own o r l (and_from (same_investor o r) (within_limit o.side o.price r.price) i w) h d)
     (λ i. let a = reach_front_traded o r l turn w i h d t.1 in
-    let b = reach_endless k (suc turn) o (front_traded turn r l) (front_traded_sorted (eqb r.open_lots r.shown)) (front_traded_sided (eqb r.open_lots r.shown))
-    (front_traded_early (eqb r.open_lots r.shown)) (omega (arith, front_traded_parts turn r l)) in
+    let b = reach_is_unlimited_trade k (suc turn) o (front_traded turn r l) (front_traded_sorted (eqb r.open_lots r.shown)) (front_traded_on_side (eqb r.open_lots r.shown))
+    (front_traded_drawn (eqb r.open_lots r.shown)) (omega (arith, front_traded_parts turn r l)) in
     omega arith))
   where
     front_traded_sorted : (b : Bool) → Sorted rank_of (cond b l (put_by_rank rank_of (order_refilled turn r.shown r) l))
     front_traded_sorted true = h.1
     front_traded_sorted false = sorted_put_in rank_of (order_refilled turn r.shown r) l h.1
 
-    front_traded_sided : (b : Bool) → AllByRecursion (Sided (opposite o.side)) (cond b l (put_by_rank rank_of (order_refilled turn r.shown r) l))
-    front_traded_sided true = d.1
-    front_traded_sided false = all_put_in rank_of (Sided (opposite o.side)) (order_refilled turn r.shown r) l d.0 d.1
+    front_traded_on_side : (b : Bool) → AllByRecursion (OnSide (opposite o.side)) (cond b l (put_by_rank rank_of (order_refilled turn r.shown r) l))
+    front_traded_on_side true = d.1
+    front_traded_on_side false = all_put_in rank_of (OnSide (opposite o.side)) (order_refilled turn r.shown r) l d.0 d.1
 
-    front_traded_early : (b : Bool) → AllByRecursion (λ (y : Order). y.turn < suc turn) (cond b l (put_by_rank rank_of (order_refilled turn r.shown r) l))
-    front_traded_early true = all_early turn l t.1
-    front_traded_early false = all_put_in rank_of (λ (y : Order). y.turn < suc turn) (order_refilled turn r.shown r) l (let z : turn < suc turn = omega arith in z) (all_early turn l t.1)
+    front_traded_drawn : (b : Bool) → AllByRecursion (λ (y : Order). y.turn < suc turn) (cond b l (put_by_rank rank_of (order_refilled turn r.shown r) l))
+    front_traded_drawn true = all_early turn l t.1
+    front_traded_drawn false = all_put_in rank_of (λ (y : Order). y.turn < suc turn) (order_refilled turn r.shown r) l (let z : turn < suc turn = omega arith in z) (all_early turn l t.1)

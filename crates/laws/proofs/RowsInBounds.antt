@@ -12,25 +12,25 @@ use Rattle.matching.specs.Entering.{entered_order}
 use Rattle.matching.proofs.PartsFall.{reduced_fits, refilled_fits, showing_0, showing_1, showing_some}
 
 -- a row within the bounds reads back
-pub reads : (r : OrderRow) → InBounds r → row_of (order_of r) ≡ r
-reads r h = ap (λ b. sound_row b r) (in_bounds_from r h)
+pub reads_back : (r : OrderRow) → InBounds r → row_of (order_of r) ≡ r
+reads_back r h = ap (λ b. sound_row b r) (in_bounds_from r h)
 
 pub reduced_row : (lots : ℕ) (o : Order) → lots < o.shown → row_of (order_reduced lots o) ≡ with_lots o.turn (o.open_lots - lots) (o.shown - lots) o
-reduced_row lots o h = reads (with_lots o.turn (o.open_lots - lots) (o.shown - lots) o) (reduced_fits lots o h)
+reduced_row lots o h = reads_back (with_lots o.turn (o.open_lots - lots) (o.shown - lots) o) (reduced_fits lots o h)
 
 pub refilled_row : (turn lots : ℕ) (o : Order) → lots < o.open_lots →
     row_of (order_refilled turn lots o) ≡ with_lots turn (o.open_lots - lots) (showing o.disclosed (o.open_lots - lots)) o
-refilled_row turn lots o h = reads (with_lots turn (o.open_lots - lots) (showing o.disclosed (o.open_lots - lots)) o) (refilled_fits turn lots o h)
+refilled_row turn lots o h = reads_back (with_lots turn (o.open_lots - lots) (showing o.disclosed (o.open_lots - lots)) o) (refilled_fits turn lots o h)
 
 -- so many lots may be asked for, of which so many are disclosed
-pub record Allowed (quantity disclosed : ℕ) : Type 0 where
+pub record QuantityAllowed (quantity disclosed : ℕ) : Type 0 where
   pub some : 1 ≤ quantity
   pub few : quantity ≤ 1000000
   pub parts : 1 ≤ disclosed → quantity ≤ 16 * disclosed
 
 -- lots shown anew are within the bounds
-pub anew_fits : (r : OrderRow) → r.shown ≡ showing r.disclosed r.open_lots → 1 ≤ r.open_lots → r.open_lots ≤ r.quantity → Allowed r.quantity r.disclosed → InBounds r
-anew_fits r e h q a =
+pub shown_in_full_in_bounds : (r : OrderRow) → r.shown ≡ showing r.disclosed r.open_lots → 1 ≤ r.open_lots → r.open_lots ≤ r.quantity → QuantityAllowed r.quantity r.disclosed → InBounds r
+shown_in_full_in_bounds r e h q a =
     let s = showing_some r.disclosed r.open_lots h in
     record {
       some_shown = omega arith;
@@ -59,19 +59,19 @@ entered_row a price stamp = record {
   tag = a.tag;
 }
 
-pub order_from_row : (a : NewOrder) (price : Price) (stamp : ℕ) → Allowed a.quantity a.disclosed → row_of (entered_order a price stamp) ≡ entered_row a price stamp
-order_from_row a price stamp h = reads (entered_row a price stamp) (anew_fits (entered_row a price stamp) refl h.some (omega arith) h)
+pub order_from_row : (a : NewOrder) (price : Price) (stamp : ℕ) → QuantityAllowed a.quantity a.disclosed → row_of (entered_order a price stamp) ≡ entered_row a price stamp
+order_from_row a price stamp h = reads_back (entered_row a price stamp) (shown_in_full_in_bounds (entered_row a price stamp) refl h.some (omega arith) h)
 
 -- an order that shows as in trading
-abbrev pub Shows : Order → Type 0
-Shows o = o.shown ≡ showing o.disclosed o.open_lots
+abbrev pub ShowsInFull : Order → Type 0
+ShowsInFull o = o.shown ≡ showing o.disclosed o.open_lots
 
-pub refilled_shows : (turn lots : ℕ) (o : Order) → lots < o.open_lots → Shows (order_refilled turn lots o)
+pub refilled_shows : (turn lots : ℕ) (o : Order) → lots < o.open_lots → ShowsInFull (order_refilled turn lots o)
 refilled_shows turn lots o h =
     let e = refilled_row turn lots o h in
     ap (λ (r : OrderRow). r.shown) e ∙ sym (ap (λ (r : OrderRow). showing r.disclosed r.open_lots) e)
 
-pub entered_shows : (a : NewOrder) (price : Price) (stamp : ℕ) → Allowed a.quantity a.disclosed → Shows (entered_order a price stamp)
+pub entered_shows : (a : NewOrder) (price : Price) (stamp : ℕ) → QuantityAllowed a.quantity a.disclosed → ShowsInFull (entered_order a price stamp)
 entered_shows a price stamp h =
     let e = order_from_row a price stamp h in
     ap (λ (r : OrderRow). r.shown) e ∙ sym (ap (λ (r : OrderRow). showing r.disclosed r.open_lots) e)

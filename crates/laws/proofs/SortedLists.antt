@@ -15,20 +15,20 @@ abbrev pub Sorted : {X : Type 0} → (X → Rank) → List X → Type 0
 Sorted f [] = Unit {0}
 Sorted f (x ∷ l) = AllByRecursion (λ y. ranks_ahead (f y) (f x) ≡ false) l × Sorted f l
 
-nothing : {A : Type 0} {X : Type 0} (x : X) → ◌≡◌ {A = Option X} None (Some x) → A
-nothing x e = let z : ◌≡◌ {A = ℕ} 0 1 = cc in absurd (omega arith)
+none_is_some : {A : Type 0} {X : Type 0} (x : X) → ◌≡◌ {A = Option X} None (Some x) → A
+none_is_some x e = let z : ◌≡◌ {A = ℕ} 0 1 = cc in absurd (omega arith)
 
 -- what is taken
 
 pub total_removed : {X : Type 0} (f : X → ℕ) (l : List X) (i : ℕ) (x : X) → slice_get l i ≡ Some x → total f (remove l i) + f x ≡ total f l
-total_removed f [] i x e = nothing x e
+total_removed f [] i x e = none_is_some x e
 total_removed f (y ∷ l) zero x e = let z : y ≡ x = cc in let k : f y ≡ f x = ap f z in omega arith
 total_removed f (y ∷ l) (suc i) x e = let ih = total_removed f l i x e in omega arith
 
-pub length_taken : {X : Type 0} (l : List X) (i : ℕ) (x : X) → slice_get l i ≡ Some x → suc (length (remove l i)) ≡ length l
-length_taken [] i x e = nothing x e
-length_taken (y ∷ l) zero x e = refl
-length_taken (y ∷ l) (suc i) x e = ap suc (length_taken l i x e)
+pub length_removed : {X : Type 0} (l : List X) (i : ℕ) (x : X) → slice_get l i ≡ Some x → suc (length (remove l i)) ≡ length l
+length_removed [] i x e = none_is_some x e
+length_removed (y ∷ l) zero x e = refl
+length_removed (y ∷ l) (suc i) x e = ap suc (length_removed l i x e)
 
 pub all_removed : {X : Type 0} (P : X → Type 0) (l : List X) (i : ℕ) → AllByRecursion P l → AllByRecursion P (remove l i)
 all_removed P [] zero h = h
@@ -37,7 +37,7 @@ all_removed P (y ∷ l) zero h = h.1
 all_removed P (y ∷ l) (suc i) h = (h.0, all_removed P l i h.1)
 
 pub all_nth : {X : Type 0} (P : X → Type 0) (l : List X) (i : ℕ) (x : X) → slice_get l i ≡ Some x → AllByRecursion P l → P x
-all_nth P [] i x e h = nothing x e
+all_nth P [] i x e h = none_is_some x e
 all_nth P (y ∷ l) zero x e h = let z : y ≡ x = cc in subst P z h.0
 all_nth P (y ∷ l) (suc i) x e h = all_nth P l i x e h.1
 
@@ -73,15 +73,15 @@ all_put_in f P x [] p h = (p, tt)
 all_put_in f P x (y ∷ l) p h =
     subst (AllByRecursion P) (sym (put_in_cons f x y l)) (cond_both (ranks_ahead (f x) (f y)) (x ∷ y ∷ l) (y ∷ put_by_rank f x l) (AllByRecursion P) (λ _. (p, h)) (λ _. (h.0, all_put_in f P x l p h.1)))
 
-before_one_way : (a b : Rank) → ranks_ahead a b ≡ true → ranks_ahead b a ≡ false
-before_one_way a b h = grind (arith, nat_tests)
+ahead_one_way : (a b : Rank) → ranks_ahead a b ≡ true → ranks_ahead b a ≡ false
+ahead_one_way a b h = grind (arith, nat_tests)
 
-pub before_itself : (a : Rank) → ranks_ahead a a ≡ false
-before_itself a = grind (arith, nat_tests)
+pub not_ahead_of_itself : (a : Rank) → ranks_ahead a a ≡ false
+not_ahead_of_itself a = grind (arith, nat_tests)
 
 -- what is not before b is not before what b is behind
-behind : (a b c : Rank) → ranks_ahead a b ≡ true → ranks_ahead c b ≡ false → ranks_ahead c a ≡ false
-behind a b c e h = go (ranks_ahead c a) refl
+not_ahead_behind : (a b c : Rank) → ranks_ahead a b ≡ true → ranks_ahead c b ≡ false → ranks_ahead c a ≡ false
+not_ahead_behind a b c e h = go (ranks_ahead c a) refl
   where
     go : (t : Bool) → ranks_ahead c a ≡ t → t ≡ false
     go false _ = refl
@@ -91,13 +91,13 @@ pub sorted_put_in : {X : Type 0} (f : X → Rank) (x : X) (l : List X) → Sorte
 sorted_put_in f x [] h = (tt, tt)
 sorted_put_in f x (y ∷ l) h =
     subst (Sorted f) (sym (put_in_cons f x y l)) (cond_both (ranks_ahead (f x) (f y)) (x ∷ y ∷ l) (y ∷ put_by_rank f x l) (Sorted f)
-    (λ e. ((before_one_way (f x) (f y) e, All-weaker (λ z. ranks_ahead (f z) (f y) ≡ false) (λ z. ranks_ahead (f z) (f x) ≡ false) (λ z k. behind (f x) (f y) (f z) e k) l h.0), h))
+    (λ e. ((ahead_one_way (f x) (f y) e, All-weaker (λ z. ranks_ahead (f z) (f y) ≡ false) (λ z. ranks_ahead (f z) (f x) ≡ false) (λ z k. not_ahead_behind (f x) (f y) (f z) e k) l h.0), h))
     (λ e. (all_put_in f (λ z. ranks_ahead (f z) (f y) ≡ false) x l e h.0, sorted_put_in f x l h.1)))
 
 -- what is rewritten
 
 pub total_set : {X : Type 0} (f : X → ℕ) (l : List X) (i : ℕ) (x y : X) → slice_get l i ≡ Some x → total f (set l i y) ≡ f y + total f (remove l i)
-total_set f [] i x y e = nothing x e
+total_set f [] i x y e = none_is_some x e
 total_set f (z ∷ l) zero x y e = refl
 total_set f (z ∷ l) (suc i) x y e = let ih = total_set f l i x y e in omega arith
 
@@ -137,5 +137,5 @@ not_found f n l e = cond-false (ltb (before_number f n l) (length l)) (Some (bef
 -- the first of a list
 
 pub nth_first : {X : Type 0} (l : List X) (x : X) → slice_get l 0 ≡ Some x → (rest : List X) × (l ≡ x ∷ rest)
-nth_first [] x e = nothing x e
+nth_first [] x e = none_is_some x e
 nth_first (y ∷ l) x e = (l, ap (λ z. z ∷ l) (let u : y ≡ x = cc in u))

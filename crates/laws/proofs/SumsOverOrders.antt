@@ -51,12 +51,12 @@ queued_waits : (g : Measure) (s : Side) (l : List Stop) (q : Queues) →
 queued_waits g Buy l q = omega arith
 queued_waits g Sell l q = omega arith
 
-pub queued_cut : (g : Measure) (s : Side) (i : ℕ) (o : Order) (q : Queues) → slice_get (at s q.stands) i ≡ Some o → queued g (taken (Orders s) i q) + g stands o ≡ queued g q
-queued_cut g s i o q e = omega (arith, queued_stands g s (remove (at s q.stands) i) q, total_removed (g stands) (at s q.stands) i o e)
+pub queued_removed : (g : Measure) (s : Side) (i : ℕ) (o : Order) (q : Queues) → slice_get (at s q.stands) i ≡ Some o → queued g (taken (Orders s) i q) + g stands o ≡ queued g q
+queued_removed g s i o q e = omega (arith, queued_stands g s (remove (at s q.stands) i) q, total_removed (g stands) (at s q.stands) i o e)
 
-pub queued_stop_cut : (g : Measure) (s : Side) (i : ℕ) (x : Stop) (q : Queues) → slice_get (at s q.waits) i ≡ Some x →
+pub queued_stop_removed : (g : Measure) (s : Side) (i : ℕ) (x : Stop) (q : Queues) → slice_get (at s q.waits) i ≡ Some x →
     queued g (taken (Stops s) i q) + g waits x.order ≡ queued g q
-queued_stop_cut g s i x q e = omega (arith, queued_waits g s (remove (at s q.waits) i) q, total_removed (of_stop g) (at s q.waits) i x e)
+queued_stop_removed g s i x q e = omega (arith, queued_waits g s (remove (at s q.waits) i) q, total_removed (of_stop g) (at s q.waits) i x e)
 
 pub queued_put : (g : Measure) (o : Order) (q : Queues) → queued g (inserted (Standing o) q) ≡ queued g q + g stands o
 queued_put g o q = omega (arith, queued_stands g o.side (put_by_rank rank_of o (at o.side q.stands)) q, total_put_in rank_of (g stands) o (at o.side q.stands))
@@ -143,10 +143,10 @@ module _ (q : Queues) (m : Option Order) where
       at_incoming (Some o) z = k incoming o z
 
 -- how many orders have a number
-abbrev pub one_of : ℕ → Measure
-one_of n p o = counting n o.number 1
+abbrev pub with_number : ℕ → Measure
+with_number n p o = counting n o.number 1
 
-none_found : (n : ℕ) (q : Queues) → queued (one_of n) q ≡ 0 → found n q ≡ None
+none_found : (n : ℕ) (q : Queues) → queued (with_number n) q ≡ 0 → found n q ≡ None
 none_found n q e =
     rw (
       not_found (λ (o : Order). o.number) n q.stands.buy (omega arith),
@@ -156,8 +156,8 @@ none_found n q e =
     ) refl
 
 -- a put of a number that nobody has is done where there is room, and never answers twice
-pub put_new : (e : Record) (q : Queues) → queued (one_of (number_of e)) q ≡ 0 → put_answer e q ≡ cond (ltb (count (queue_of e) q) (capacity (queue_of e) q)) (Ok tt) (Err Full)
+pub put_new : (e : Record) (q : Queues) → queued (with_number (number_of e)) q ≡ 0 → put_answer e q ≡ cond (ltb (count (queue_of e) q) (capacity (queue_of e) q)) (Ok tt) (Err Full)
 put_new e q n = ap (λ (m : Option (Queue × ℕ)). cond (ltb (count (queue_of e) q) (capacity (queue_of e) q)) (cond (is_some m) (Err Twice) (Ok tt)) (Err Full)) (none_found (number_of e) q n)
 
-pub put_done : (e : Record) (q : Queues) → queued (one_of (number_of e)) q ≡ 0 → count (queue_of e) q < capacity (queue_of e) q → put_answer e q ≡ Ok tt
+pub put_done : (e : Record) (q : Queues) → queued (with_number (number_of e)) q ≡ 0 → count (queue_of e) q < capacity (queue_of e) q → put_answer e q ≡ Ok tt
 put_done e q n r = put_new e q n ∙ cond-true (ltb (count (queue_of e) q) (capacity (queue_of e) q)) (Ok tt) (Err Full) (lt-ltb (count (queue_of e) q) (capacity (queue_of e) q) r)

@@ -20,20 +20,20 @@ use Rattle.matching.specs.Model.{MatchState, Event, trades}
 use Rattle.matching.specs.Running.{total}
 use Rattle.laws.specs.Tally.{stands, incoming, Account, Tally, stands_on}
 use Rattle.laws.specs.Fair.{Foremost, Fair}
-use Rattle.laws.proofs.SortedLists.{Sorted, before_itself, nth_first}
-use Rattle.laws.proofs.ConsistentQueues.{ConsistentQueues, Low, Sided, Clear, clear_nth}
-use Rattle.laws.proofs.SumsOverOrders.{one_of}
-use Rattle.laws.proofs.EventsApply.{MayApply, Ready, taken_up, rest_side, one_itself}
+use Rattle.laws.proofs.SortedLists.{Sorted, not_ahead_of_itself, nth_first}
+use Rattle.laws.proofs.ConsistentQueues.{ConsistentQueues, InPriceRange, OnSide, CrossesNone, nth_crosses_none}
+use Rattle.laws.proofs.SumsOverOrders.{with_number}
+use Rattle.laws.proofs.EventsApply.{MayApply, IncomingReady, before_event, rest_side, counts_itself}
 use Rattle.laws.proofs.RunsToRest.{Consistent}
-use Rattle.laws.proofs.TallyAgrees.{View, by_row, TallyAgrees, two_only, zero_one}
+use Rattle.laws.proofs.TallyAgrees.{RowMeasure, of_tally_row, TallyAgrees, traders_only, counts_nothing}
 use Rattle.laws.proofs.FirstPrices.{none_stands}
 
 -- who stands ahead of an order in the tally, counted
-abbrev ahead_in : Tally → OrderRow → ℕ
-ahead_in t x = total (λ a. cond (stands_on x.side a.status a.order && ranks_ahead (order_rank a.order) (order_rank x)) 1 0) t.accounts
+abbrev count_ahead : Tally → OrderRow → ℕ
+count_ahead t x = total (λ a. cond (stands_on x.side a.status a.order && ranks_ahead (order_rank a.order) (order_rank x)) 1 0) t.accounts
 
-abbrev outside : Price → OrderRow → ℕ
-outside price x = cond (within_limit x.side x.price price) 0 1
+abbrev past_limit : Price → OrderRow → ℕ
+past_limit price x = cond (within_limit x.side x.price price) 0 1
 
 -- nobody of its side stands ahead of an order that trades
 
@@ -41,15 +41,15 @@ later_key : (a b : Rank) → b.key < a.key → ranks_ahead a b ≡ false
 later_key a b h = grind (arith, nat_tests)
 
 -- an incoming order, against whoever is priced further from the other side than the order that it meets
-behind_key : (s : Side) (x o r : Price) → Low o → within_limit s o r ≡ true → (s ≡ Buy → level x < level r) → (s ≡ Sell → level r < level x) → order_key s o < order_key s x
+behind_key : (s : Side) (x o r : Price) → InPriceRange o → within_limit s o r ≡ true → (s ≡ Buy → level x < level r) → (s ≡ Sell → level r < level x) → order_key s o < order_key s x
 behind_key Buy x o r l w b c = let k = leb-true (level r) (level o) w in omega (arith, b refl)
 behind_key Sell x o r l w b c = let k = leb-true (level o) (level r) w in omega (arith, c refl)
 
-all_behind : (s : Side) (o r : Order) (b : Both (List Order)) → o.side ≡ s → Low o.price → within_limit s o.price r.price ≡ true → AllByRecursion (Sided s) (at s b) →
-    Clear (opposite s) b r → AllByRecursion (λ (x : Order). ranks_ahead (rank_of x) (rank_of o) ≡ false) (at s b)
+all_behind : (s : Side) (o r : Order) (b : Both (List Order)) → o.side ≡ s → InPriceRange o.price → within_limit s o.price r.price ≡ true → AllByRecursion (OnSide s) (at s b) →
+    CrossesNone (opposite s) b r → AllByRecursion (λ (x : Order). ranks_ahead (rank_of x) (rank_of o) ≡ false) (at s b)
 all_behind Buy o r b e l w d c = go b.buy d c
   where
-    go : (k : List Order) → AllByRecursion (Sided Buy) k → AllByRecursion (λ (x : Order). level x.price < level r.price) k → AllByRecursion (λ (x : Order). ranks_ahead (rank_of x) (rank_of o) ≡ false) k
+    go : (k : List Order) → AllByRecursion (OnSide Buy) k → AllByRecursion (λ (x : Order). level x.price < level r.price) k → AllByRecursion (λ (x : Order). ranks_ahead (rank_of x) (rank_of o) ≡ false) k
     go [] d h = tt
     go (x ∷ k) d h = (
       later_key (rank_of x) (rank_of o) (subst (λ (z : Side). order_key o.side o.price < order_key z x.price) (sym d.0.0)
@@ -62,7 +62,7 @@ all_behind Buy o r b e l w d c = go b.buy d c
         apart z = let u : ◌≡◌ {A = ℕ} 0 1 = cc in omega arith
 all_behind Sell o r b e l w d c = go b.sell d c
   where
-    go : (k : List Order) → AllByRecursion (Sided Sell) k → AllByRecursion (λ (x : Order). level r.price < level x.price) k →
+    go : (k : List Order) → AllByRecursion (OnSide Sell) k → AllByRecursion (λ (x : Order). level r.price < level x.price) k →
         AllByRecursion (λ (x : Order). ranks_ahead (rank_of x) (rank_of o) ≡ false) k
     go [] d h = tt
     go (x ∷ k) d h = (
@@ -84,30 +84,30 @@ first_foremost : (s : Side) (r : Order) (q : Queues) → slice_get (at s q.stand
 first_foremost s r q e g =
     let n = nth_first (at s q.stands) r e in
     let h = subst (Sorted rank_of) n.1 (g.sorted s) in
-    subst (AllByRecursion (λ (x : Order). ranks_ahead (rank_of x) (rank_of r) ≡ false)) (sym n.1) (before_itself (rank_of r), h.0)
+    subst (AllByRecursion (λ (x : Order). ranks_ahead (rank_of x) (rank_of r) ≡ false)) (sym n.1) (not_ahead_of_itself (rank_of r), h.0)
 
 pub fair_trades : (o r : Order) (f : MatchState) → MayApply (trades o r) f → Consistent f → (t : Tally) → TallyAgrees t f → Fair o.number r.number r.price t
 fair_trades o r f fit s t m =
     let e : Event = trades o r in
     let p : Price = r.price in
     let z : Side = o.side in
-    let w : View = λ _ x. outside p x + ahead_in t x in
+    let w : RowMeasure = λ _ x. past_limit p x + count_ahead t x in
     let d = rest_side o r f fit s.queues in
-    let low : Low o.price = (subst Ready fit.is_incoming s.ready).0 in
-    let a : ahead_in t (row_of o) ≡ 0 = m.sums (λ q x. cond (stands_on z q x && ranks_ahead (order_rank x) (order_rank (row_of o))) 1 0) ∙ none_stands z
+    let low : InPriceRange o.price = (subst IncomingReady fit.is_incoming s.incoming_ready).0 in
+    let a : count_ahead t (row_of o) ≡ 0 = m.sums (λ q x. cond (stands_on z q x && ranks_ahead (order_rank x) (order_rank (row_of o))) 1 0) ∙ none_stands z
     (λ x. ranks_ahead (order_rank x) (order_rank (row_of o))) f s.queues
-    (all_behind z o r f.queues.stands refl low fit.within_its_limit (s.queues.sided z) (clear_nth (opposite z) 0 r f.queues fit.first s.queues)) in
-    let c : ahead_in t (row_of r) ≡ 0 = m.sums (λ q x. cond (stands_on r.side q x && ranks_ahead (order_rank x) (order_rank (row_of r))) 1 0) ∙ none_stands
+    (all_behind z o r f.queues.stands refl low fit.within_its_limit (s.queues.on_side z) (nth_crosses_none (opposite z) 0 r f.queues fit.first s.queues)) in
+    let c : count_ahead t (row_of r) ≡ 0 = m.sums (λ q x. cond (stands_on r.side q x && ranks_ahead (order_rank x) (order_rank (row_of r))) 1 0) ∙ none_stands
     r.side (λ x. ranks_ahead (order_rank x) (order_rank (row_of r))) f s.queues
     (subst (λ (y : Side). AllByRecursion (λ (x : Order). ranks_ahead (rank_of x) (rank_of r) ≡ false) (at y f.queues.stands)) (sym d.0) (first_foremost (opposite z) r f.queues fit.first s.queues)) in
-    let b : outside p (row_of o) ≡ 0 = cond-true {A = ℕ} (within_limit z o.price p) 0 1 fit.within_its_limit in
-    let k : outside p (row_of r) ≡ 0 = cond-true {A = ℕ} (within_limit r.side p p) 0 1 (within_itself r.side p) in
+    let b : past_limit p (row_of o) ≡ 0 = cond-true {A = ℕ} (within_limit z o.price p) 0 1 fit.within_its_limit in
+    let k : past_limit p (row_of r) ≡ 0 = cond-true {A = ℕ} (within_limit r.side p p) 0 1 (within_itself r.side p) in
     let named : OrderRow → Bool = λ x. eqb x.number o.number || eqb x.number r.number in
     let zero-sum : total (λ a. cond (named a.order) (w a.status a.order) 0) t.accounts ≡ 0 =
-    m.sums (λ q x. cond (named x) (w q x) 0) ∙ (two_only o r f fit s (by_row w) ∙ (let u : w incoming (row_of o) + w stands (row_of r) ≡ 0 = omega arith in u)) in
+    m.sums (λ q x. cond (named x) (w q x) 0) ∙ (traders_only o r f fit s (of_tally_row w) ∙ (let u : w incoming (row_of o) + w stands (row_of r) ≡ 0 = omega arith in u)) in
     record {
-      one_incoming = omega (arith, m.sums (λ _ x. cond (eqb x.number o.number) 1 0), taken_up (one_of o.number) e f fit, one_itself incoming o, s.counts.single o.number);
-      one_resting = omega (arith, m.sums (λ _ x. cond (eqb x.number r.number) 1 0), taken_up (one_of r.number) e f fit, one_itself stands r, s.counts.single r.number);
+      one_incoming = omega (arith, m.sums (λ _ x. cond (eqb x.number o.number) 1 0), before_event (with_number o.number) e f fit, counts_itself incoming o, s.accounted.numbers_unique o.number);
+      one_resting = omega (arith, m.sums (λ _ x. cond (eqb x.number r.number) 1 0), before_event (with_number r.number) e f fit, counts_itself stands r, s.accounted.numbers_unique r.number);
       in_turn = All-weaker (λ a. cond (named a.order) (w a.status a.order) 0 ≡ 0) _
           (λ a k i. fair_one a (cond_named (named a.order) (w a.status a.order) (is_named a i) k)) t.accounts
           (total_zero (λ a. cond (named a.order) (w a.status a.order) 0) t.accounts zero-sum);
@@ -134,14 +134,14 @@ fair_trades o r f fit s t m =
     and_false true c e k = e
     and_false false c e k = absurd (both_ways false refl k)
 
-    fair_one : (a : Account) → outside r.price a.order + ahead_in t a.order ≡ 0 →
+    fair_one : (a : Account) → past_limit r.price a.order + count_ahead t a.order ≡ 0 →
         (within_limit a.order.side a.order.price r.price ≡ true) × Foremost t a.order
     fair_one a k =
-        let n : ℕ = ahead_in t a.order in (
+        let n : ℕ = count_ahead t a.order in (
           one_zero (within_limit a.order.side a.order.price r.price) (omega arith),
           All-weaker (λ b. cond {A = ℕ} (stands_on a.order.side b.status b.order && ranks_ahead (order_rank b.order) (order_rank a.order)) 1 0 ≡ 0) _
               (λ b z i. and_false (stands_on a.order.side b.status b.order) (ranks_ahead (order_rank b.order) (order_rank a.order))
-              (zero_one (stands_on a.order.side b.status b.order && ranks_ahead (order_rank b.order) (order_rank a.order)) z) i)
+              (counts_nothing (stands_on a.order.side b.status b.order && ranks_ahead (order_rank b.order) (order_rank a.order)) z) i)
               t.accounts (total_zero (λ b. cond (stands_on a.order.side b.status b.order && ranks_ahead (order_rank b.order)
               (order_rank a.order)) 1 0) t.accounts (let z : n ≡ 0 = omega arith in z)),
         )

@@ -26,14 +26,14 @@ use Rattle.laws.specs.Tally.{stands}
 use Rattle.laws.specs.Reaching.{front_traded}
 use Rattle.laws.specs.WithinRoom.{event_lines}
 use Rattle.laws.proofs.SortedLists.{Sorted}
-use Rattle.laws.proofs.ConsistentQueues.{ConsistentQueues, Sided, at_own, beyond_first}
+use Rattle.laws.proofs.ConsistentQueues.{ConsistentQueues, OnSide, at_own, none_within_limit}
 use Rattle.laws.proofs.SumsOverOrders.{everywhere}
 use Rattle.laws.proofs.RowsInBounds.{refilled_row}
-use Rattle.laws.proofs.EventsApply.{Trades, Single, after_outcome, after_trade_trade, rest_side}
+use Rattle.laws.proofs.EventsApply.{MayTrade, NumbersUnique, after_outcome, after_trade_trade, rest_side}
 use Rattle.laws.proofs.LinesAndStamps.{tape, tape_is}
-use Rattle.laws.proofs.TurnsBelowStamp.{late, is_early}
-use Rattle.laws.proofs.RunsToRest.{Consistent, consistent_apply, Follows, Leads, at_end, then, Enough, roomy_next, enough_next, run_events_leads}
-use Rattle.laws.proofs.ReachFalls.{reach_beyond, reach_own, reach_front_traded}
+use Rattle.laws.proofs.TurnsBelowStamp.{turn_undrawn, turn_below}
+use Rattle.laws.proofs.RunsToRest.{Consistent, consistent_apply, RunEvent, RunsTo, at_end, then, RoomForRest, next_has_room, rest_has_room, run_events_runs}
+use Rattle.laws.proofs.ReachFalls.{reach_none_within, reach_own, reach_front_traded}
 
 -- what is written stays written
 
@@ -41,24 +41,24 @@ pub total-++ : {X : Type 0} (f : X → ℕ) (l k : List X) → total f (l ++ k) 
 total-++ f [] k = omega arith
 total-++ f (x ∷ l) k = let ih = total-++ f l k in omega arith
 
-pub leads_more : (g : Line → ℕ) {f h : MatchState} → Leads f h → total g (tape f) ≤ total g (tape h)
-leads_more g at_end = omega arith
-leads_more g (then {f} e n r l) =
-    let ih = leads_more g l in
+pub runs_to_more : (g : Line → ℕ) {f h : MatchState} → RunsTo f h → total g (tape f) ≤ total g (tape h)
+runs_to_more g at_end = omega arith
+runs_to_more g (then {f} e n r l) =
+    let ih = runs_to_more g l in
     let a : total g (tape (apply e f)) ≡ total g (event_lines e ++ tape f) = ap (total g) (tape_is e f r) in
     omega (arith, total-++ g (event_lines e) (tape f))
 
 -- no event that follows by itself changes a quantity
-same_quantity : (n : ℕ) (e : Event) (l : List Line) → Follows e → quantity_of n (event_lines e ++ l) ≡ quantity_of n l
+same_quantity : (n : ℕ) (e : Event) (l : List Line) → RunEvent e → quantity_of n (event_lines e ++ l) ≡ quantity_of n l
 same_quantity n (cancels_incoming c o) l i = refl
 same_quantity n (trades o r) l i = refl
 same_quantity n (rests o) l i = refl
 same_quantity n (triggers s x) l i = refl
 same_quantity n _ l i = absurd i
 
-pub leads_quantity : (n : ℕ) {f h : MatchState} → Leads f h → quantity_of n (tape h) ≡ quantity_of n (tape f)
-leads_quantity n at_end = refl
-leads_quantity n (then {f} e x r l) = leads_quantity n l ∙ (ap (quantity_of n) (tape_is e f r) ∙ same_quantity n e (tape f) x.1)
+pub runs_to_quantity : (n : ℕ) {f h : MatchState} → RunsTo f h → quantity_of n (tape h) ≡ quantity_of n (tape f)
+runs_to_quantity n at_end = refl
+runs_to_quantity n (then {f} e x r l) = runs_to_quantity n l ∙ (ap (quantity_of n) (tape_is e f r) ∙ same_quantity n e (tape f) x.1)
 
 -- reach reads side, limit and investor alone
 
@@ -84,16 +84,16 @@ module _ (turn lots : ℕ) (o : Order) where
   same_reach l = ap (λ m. reach_by m (order_refilled turn lots o) l) (same_own l) ∙ same_by (own_price o l) l
 
 -- who stands has an early turn
-all_early : (stamp : ℕ) (l : List Order) → total (late stamp stands) l ≡ 0 → AllByRecursion (λ (y : Order). y.turn < stamp) l
+all_early : (stamp : ℕ) (l : List Order) → total (turn_undrawn stamp stands) l ≡ 0 → AllByRecursion (λ (y : Order). y.turn < stamp) l
 all_early stamp [] e = tt
-all_early stamp (y ∷ l) e = (is_early stamp stands y (omega arith), all_early stamp l (omega arith))
+all_early stamp (y ∷ l) e = (turn_below stamp stands y (omega arith), all_early stamp l (omega arith))
 
-pub early_stands : (s : Side) (f : MatchState) → everywhere (late f.session.next_stamp) f ≡ 0 → AllByRecursion (λ (y : Order). y.turn < f.session.next_stamp) (at s f.queues.stands)
-early_stands Buy f e = all_early f.session.next_stamp f.queues.stands.buy (omega arith)
-early_stands Sell f e = all_early f.session.next_stamp f.queues.stands.sell (omega arith)
+pub standing_turns_drawn : (s : Side) (f : MatchState) → everywhere (turn_undrawn f.session.next_stamp) f ≡ 0 → AllByRecursion (λ (y : Order). y.turn < f.session.next_stamp) (at s f.queues.stands)
+standing_turns_drawn Buy f e = all_early f.session.next_stamp f.queues.stands.buy (omega arith)
+standing_turns_drawn Sell f e = all_early f.session.next_stamp f.queues.stands.sell (omega arith)
 
 -- the queue that a trade met, when all that its first order shows was traded
-queue_front_traded : (o r : Order) (rest : List Order) (f : MatchState) → Trades o r f → ConsistentQueues f.queues → Single f → at (opposite o.side) f.queues.stands ≡ r ∷ rest →
+queue_front_traded : (o r : Order) (rest : List Order) (f : MatchState) → MayTrade o r f → ConsistentQueues f.queues → NumbersUnique f → at (opposite o.side) f.queues.stands ≡ r ∷ rest →
     trade_lots o r ≡ r.shown →
     at (opposite o.side) (apply (trades o r) f).queues.stands ≡ front_traded f.session.next_stamp r rest
 queue_front_traded o r rest f h g s e k =
@@ -132,7 +132,7 @@ counts_own : (n lots : ℕ) → counting n n lots ≡ lots
 counts_own n lots = cond-true (eqb n n) lots 0 (eq-eqb n n refl)
 
 -- the incoming order trades at least the smaller of its open lots and its reach
-pub run_events_trades : (k : ℕ) (f : MatchState) (o : Order) → Consistent f → Enough f → f.incoming ≡ Some o → weight f ≤ k →
+pub run_events_trades : (k : ℕ) (f : MatchState) (o : Order) → Consistent f → RoomForRest f → f.incoming ≡ Some o → weight f ≤ k →
     min o.open_lots (reach o (at (opposite o.side) f.queues.stands)) + traded_on o.number f ≤ traded_on o.number (run_events k f)
 run_events_trades zero f o s h w m = let z : incoming_weight f.incoming ≡ 17 = ap incoming_weight w in absurd (omega arith)
 run_events_trades (suc k) f o s h w m = go (at (opposite o.side) f.queues.stands) refl (run_events_trades k)
@@ -141,44 +141,44 @@ run_events_trades (suc k) f o s h w m = go (at (opposite o.side) f.queues.stands
     z = opposite o.side
 
     -- nothing is reached
-    stuck : (R : ℕ) → R ≡ 0 → min o.open_lots R + traded_on o.number f ≤ traded_on o.number (run_events (suc k) f)
-    stuck R e = omega (arith, leads_more (traded_lots o.number) (run_events_leads (suc k) f s h))
+    nothing_reached : (R : ℕ) → R ≡ 0 → min o.open_lots R + traded_on o.number f ≤ traded_on o.number (run_events (suc k) f)
+    nothing_reached R e = omega (arith, runs_to_more (traded_lots o.number) (run_events_runs (suc k) f s h))
 
     go : (l : List Order) → at (opposite o.side) f.queues.stands ≡ l →
-        ((f : MatchState) (o : Order) → Consistent f → Enough f → f.incoming ≡ Some o → weight f ≤ k → min o.open_lots
+        ((f : MatchState) (o : Order) → Consistent f → RoomForRest f → f.incoming ≡ Some o → weight f ≤ k → min o.open_lots
         (reach o (at (opposite o.side) f.queues.stands)) + traded_on o.number f ≤ traded_on o.number (run_events k f)) →
         min o.open_lots (reach o l) + traded_on o.number f ≤ traded_on o.number (run_events (suc k) f)
-    go [] e ih = stuck 0 refl
+    go [] e ih = nothing_reached 0 refl
     go (r ∷ rest) e ih = by_limit (within_limit o.side o.price r.price) refl
       where
         sorted : Sorted rank_of (r ∷ rest)
         sorted = subst (Sorted rank_of) e (s.queues.sorted (opposite o.side))
 
-        sided : AllByRecursion (Sided (opposite o.side)) (r ∷ rest)
-        sided = subst (AllByRecursion (Sided (opposite o.side))) e (s.queues.sided (opposite o.side))
+        on_side : AllByRecursion (OnSide (opposite o.side)) (r ∷ rest)
+        on_side = subst (AllByRecursion (OnSide (opposite o.side))) e (s.queues.on_side (opposite o.side))
 
-        early : AllByRecursion (λ (y : Order). y.turn < f.session.next_stamp) (r ∷ rest)
-        early = subst (AllByRecursion (λ (y : Order). y.turn < f.session.next_stamp)) e (early_stands (opposite o.side) f s.early)
+        drawn : AllByRecursion (λ (y : Order). y.turn < f.session.next_stamp) (r ∷ rest)
+        drawn = subst (AllByRecursion (λ (y : Order). y.turn < f.session.next_stamp)) e (standing_turns_drawn (opposite o.side) f s.turns_below)
 
         trade : within_limit o.side o.price r.price ≡ true → same_investor o r ≡ false →
             min o.open_lots (reach o (r ∷ rest)) + traded_on o.number f ≤ traded_on o.number (run_events (suc k) f)
         trade a b =
             let ev : Event = trades o r in
             let n : ℕ = o.number in
-            let fit : Trades o r f = record { is_incoming = w; first = ap (λ l. slice_get l 0) e; within_its_limit = a } in
+            let fit : MayTrade o r f = record { is_incoming = w; first = ap (λ l. slice_get l 0) e; within_its_limit = a } in
             let nx : next_event f ≡ Some ev = ap (λ h. next_given h f) w
             ∙ (ap (λ l. Some (incoming_event o (standing_order (option_map Standing (slice_get l 0))) f.queues)) e
             ∙ ap Some (cond-true (within_limit o.side o.price r.price) (cond (same_investor o r) (cancels_incoming OwnInvestor o) (trades o r))
             (leftover o f.queues) a ∙ cond-false (same_investor o r) (cancels_incoming OwnInvestor o) (trades o r) b)) in
             let li = weight_falls ev f nx in
-            let room = roomy_next ev f tt li h in
+            let room = next_has_room ev f tt li h in
             let consistent = consistent_apply ev f fit room s in
-            let enough = enough_next ev f tt li h in
+            let enough = rest_has_room ev f tt li h in
             let f' : MatchState = apply ev f in
             let same : traded_on n (run_events (suc k) f) ≡ traded_on n (run_events k f') = ap (traded_on n) (run_events_next k f (Some ev) nx) in
             let grew : traded_on n f' ≡ (counting n n (trade_lots o r) + counting n r.number (trade_lots o r)) + traded_on n f = ap (total (traded_lots n)) (tape_is ev f room) in
             let own-lots = counts_own n (trade_lots o r) in
-            let more = leads_more (traded_lots n) (run_events_leads k f' consistent enough) in
+            let more = runs_to_more (traded_lots n) (run_events_runs k f' consistent enough) in
             ⊎_elim
             (λ (c : r.shown < o.open_lots).
             let dl : trade_lots o r ≡ r.shown = omega arith in
@@ -187,23 +187,23 @@ run_events_trades (suc k) f o s h w m = go (at (opposite o.side) f.queues.stands
             let lv : o'.open_lots ≡ o.open_lots - trade_lots o r = ap (λ (q : OrderRow). q.open_lots) (refilled_row o.turn (trade_lots o r) o (omega arith)) in
             let i = ih f' o' consistent enough hd (omega arith) in
             let l' : List Order = at (opposite o.side) f'.queues.stands in
-            let rc : reach o' l' ≡ reach o (front_traded f.session.next_stamp r rest) = same_reach o.turn (trade_lots o r) o l' ∙ ap (reach o) (queue_front_traded o r rest f fit s.queues s.counts.single e dl) in
-            let wr = reach_front_traded o r rest f.session.next_stamp a b sorted sided early.1 in
+            let rc : reach o' l' ≡ reach o (front_traded f.session.next_stamp r rest) = same_reach o.turn (trade_lots o r) o l' ∙ ap (reach o) (queue_front_traded o r rest f fit s.queues s.accounted.numbers_unique e dl) in
+            let wr = reach_front_traded o r rest f.session.next_stamp a b sorted on_side drawn.1 in
             omega arith)
             (λ (c : o.open_lots ≤ r.shown). omega arith)
             (cases_lt r.shown o.open_lots)
 
         by_investor : (b : Bool) → within_limit o.side o.price r.price ≡ true → same_investor o r ≡ b →
             min o.open_lots (reach o (r ∷ rest)) + traded_on o.number f ≤ traded_on o.number (run_events (suc k) f)
-        by_investor true a i = stuck (reach o (r ∷ rest)) (reach_own o r rest (and_from (same_investor o r) (within_limit o.side o.price r.price) i a) sorted sided)
+        by_investor true a i = nothing_reached (reach o (r ∷ rest)) (reach_own o r rest (and_from (same_investor o r) (within_limit o.side o.price r.price) i a) sorted on_side)
         by_investor false a i = trade a i
 
         by_limit : (b : Bool) → within_limit o.side o.price r.price ≡ b →
             min o.open_lots (reach o (r ∷ rest)) + traded_on o.number f ≤ traded_on o.number (run_events (suc k) f)
         by_limit true a = by_investor (same_investor o r) a refl
-        by_limit false a = stuck (reach o (r ∷ rest)) (reach_beyond o (r ∷ rest) (beyond_first o.side o.price r rest sorted sided a))
+        by_limit false a = nothing_reached (reach o (r ∷ rest)) (reach_none_within o (r ∷ rest) (none_within_limit o.side o.price r rest sorted on_side a))
 
-pub run_to_rest_trades : (f : MatchState) (o : Order) → Consistent f → Enough f → f.incoming ≡ Some o →
+pub run_to_rest_trades : (f : MatchState) (o : Order) → Consistent f → RoomForRest f → f.incoming ≡ Some o →
     min o.open_lots (reach o (at (opposite o.side) f.queues.stands)) + traded_on o.number f ≤ traded_on o.number (run_to_rest f)
 unfolding run_to_rest
 run_to_rest_trades f o s h w = run_events_trades (weight f) f o s h w (omega arith)

@@ -9,54 +9,54 @@ use Rattle.laws.specs.Tally.{Status, stands, waits, incoming}
 use Rattle.laws.specs.WithinRoom.{event_stamps, outcome_stamps}
 use Rattle.laws.proofs.ConsistentQueues.{ConsistentQueues}
 use Rattle.laws.proofs.SumsOverOrders.{Measure, of_incoming, everywhere, over_le}
-use Rattle.laws.proofs.EventsApply.{MayApply, of_outcome, measure_gone, measure_come, untouched_queues, taken_up, put_down, Single}
-use Rattle.laws.proofs.LinesAndStamps.{Roomy, stamp_is}
+use Rattle.laws.proofs.EventsApply.{MayApply, of_outcome, measure_out, measure_in, untouched_queues, before_event, after_event, NumbersUnique}
+use Rattle.laws.proofs.LinesAndStamps.{RoomFor, stamp_is}
 
 -- 1 for an order whose turn is yet to come
-abbrev pub late : ℕ → Measure
-late stamp p o = cond (ltb o.turn stamp) 0 1
+abbrev pub turn_undrawn : ℕ → Measure
+turn_undrawn stamp p o = cond (ltb o.turn stamp) 0 1
 
-pub early : (stamp : ℕ) (p : Status) (o : Order) → o.turn < stamp → late stamp p o ≡ 0
-early stamp p o h = cond-true (ltb o.turn stamp) 0 1 (lt-ltb o.turn stamp h)
+pub turn_drawn : (stamp : ℕ) (p : Status) (o : Order) → o.turn < stamp → turn_undrawn stamp p o ≡ 0
+turn_drawn stamp p o h = cond-true (ltb o.turn stamp) 0 1 (lt-ltb o.turn stamp h)
 
-pub is_early : (stamp : ℕ) (p : Status) (o : Order) → late stamp p o ≡ 0 → o.turn < stamp
-is_early stamp p o e = cond_both {A = ℕ} (ltb o.turn stamp) 0 1 (λ n. n ≡ 0 → o.turn < stamp) (λ k _. ltb-true o.turn stamp k) (λ _ z. absurd (omega arith)) e
+pub turn_below : (stamp : ℕ) (p : Status) (o : Order) → turn_undrawn stamp p o ≡ 0 → o.turn < stamp
+turn_below stamp p o e = cond_both {A = ℕ} (ltb o.turn stamp) 0 1 (λ n. n ≡ 0 → o.turn < stamp) (λ k _. ltb-true o.turn stamp k) (λ _ z. absurd (omega arith)) e
 
 -- later, no more are late
-fewer_late : (stamp more : ℕ) (p : Status) (o : Order) → late (stamp + more) p o ≤ late stamp p o
-fewer_late stamp more p o = cond_both {A = ℕ} (ltb o.turn stamp) 0 1 (λ n. late (stamp + more) p o ≤ n)
-    (λ e. let k = early (stamp + more) p o (omega (arith, ltb-true o.turn stamp e)) in omega arith)
+turns_undrawn_fall : (stamp more : ℕ) (p : Status) (o : Order) → turn_undrawn (stamp + more) p o ≤ turn_undrawn stamp p o
+turns_undrawn_fall stamp more p o = cond_both {A = ℕ} (ltb o.turn stamp) 0 1 (λ n. turn_undrawn (stamp + more) p o ≤ n)
+    (λ e. let k = turn_drawn (stamp + more) p o (omega (arith, ltb-true o.turn stamp e)) in omega arith)
     (λ _. cond_both {A = ℕ} (ltb o.turn (stamp + more)) 0 1 (λ n. n ≤ 1) (λ _. omega arith) (λ _. omega arith))
 
-held_early : (stamp lots : ℕ) (o : Order) → lots ≤ o.open_lots → o.turn < stamp → of_incoming (late stamp incoming) (incoming_left lots o) ≡ 0
-held_early stamp lots o most h = incoming_left_cases lots o (λ m. of_incoming (late stamp incoming) m ≡ 0) most (λ _. refl) (λ _. early stamp incoming (order_refilled o.turn lots o) h)
+incoming_left_turn : (stamp lots : ℕ) (o : Order) → lots ≤ o.open_lots → o.turn < stamp → of_incoming (turn_undrawn stamp incoming) (incoming_left lots o) ≡ 0
+incoming_left_turn stamp lots o most h = incoming_left_cases lots o (λ m. of_incoming (turn_undrawn stamp incoming) m ≡ 0) most (λ _. refl) (λ _. turn_drawn stamp incoming (order_refilled o.turn lots o) h)
 
-outcome_early : (k : RestingOutcome) (lots stamp : ℕ) (r : Order) → r.turn < stamp → of_outcome (late (stamp + outcome_stamps k) stands) k lots stamp r ≡ 0
-outcome_early filled lots stamp r h = refl
-outcome_early refilled lots stamp r h = early (stamp + 1) stands (order_refilled stamp lots r) (omega arith)
-outcome_early reduced lots stamp r h = early (stamp + 0) stands (order_reduced lots r) (omega arith)
+outcome_turn : (k : RestingOutcome) (lots stamp : ℕ) (r : Order) → r.turn < stamp → of_outcome (turn_undrawn (stamp + outcome_stamps k) stands) k lots stamp r ≡ 0
+outcome_turn filled lots stamp r h = refl
+outcome_turn refilled lots stamp r h = turn_drawn (stamp + 1) stands (order_refilled stamp lots r) (omega arith)
+outcome_turn reduced lots stamp r h = turn_drawn (stamp + 0) stands (order_reduced lots r) (omega arith)
 
 -- nobody that an event puts down is late
-coming_early : (e : Event) (f : MatchState) → MayApply e f → measure_gone e f (late f.session.next_stamp) ≡ 0 → measure_come e f (late (f.session.next_stamp + event_stamps e)) ≡ 0
-coming_early (accepts o) f h g = early (f.session.next_stamp + 1) incoming o (omega (arith, h.turn))
-coming_early (accepts_stop x) f h g = early (f.session.next_stamp + 1) waits x.order (omega (arith, h.arrives.turn))
-coming_early (trades o r) f h g =
-    let a = is_early f.session.next_stamp incoming o (omega arith) in
-    let b = is_early f.session.next_stamp stands r (omega arith) in
-    omega (arith, held_early (f.session.next_stamp + outcome_stamps (outcome (trade_lots o r) r)) (trade_lots o r) o (omega arith) (omega arith), outcome_early (outcome (trade_lots o r) r) (trade_lots o r) f.session.next_stamp r b)
-coming_early (rests o) f h g = early (f.session.next_stamp + 0) stands o (omega (arith, is_early f.session.next_stamp incoming o g))
-coming_early (triggers s x) f h g = early (f.session.next_stamp + 1) incoming (order_refilled f.session.next_stamp 0 x.order) (omega arith)
-coming_early (amends i o) f h g =
-    let z : measure_gone (amends i o) f (late f.session.next_stamp) ≡ late f.session.next_stamp stands h.0.was = ap (of_incoming (late f.session.next_stamp stands)) h.0.there in
-    early (f.session.next_stamp + 0) stands o (omega (arith, is_early f.session.next_stamp stands h.0.was (omega arith), h.1.turn))
-coming_early (requeues s i o) f h g = early (f.session.next_stamp + 1) incoming o (omega (arith, h.2))
-coming_early _ f h g = refl
+in_turns_drawn : (e : Event) (f : MatchState) → MayApply e f → measure_out e f (turn_undrawn f.session.next_stamp) ≡ 0 → measure_in e f (turn_undrawn (f.session.next_stamp + event_stamps e)) ≡ 0
+in_turns_drawn (accepts o) f h g = turn_drawn (f.session.next_stamp + 1) incoming o (omega (arith, h.turn))
+in_turns_drawn (accepts_stop x) f h g = turn_drawn (f.session.next_stamp + 1) waits x.order (omega (arith, h.enters.turn))
+in_turns_drawn (trades o r) f h g =
+    let a = turn_below f.session.next_stamp incoming o (omega arith) in
+    let b = turn_below f.session.next_stamp stands r (omega arith) in
+    omega (arith, incoming_left_turn (f.session.next_stamp + outcome_stamps (outcome (trade_lots o r) r)) (trade_lots o r) o (omega arith) (omega arith), outcome_turn (outcome (trade_lots o r) r) (trade_lots o r) f.session.next_stamp r b)
+in_turns_drawn (rests o) f h g = turn_drawn (f.session.next_stamp + 0) stands o (omega (arith, turn_below f.session.next_stamp incoming o g))
+in_turns_drawn (triggers s x) f h g = turn_drawn (f.session.next_stamp + 1) incoming (order_refilled f.session.next_stamp 0 x.order) (omega arith)
+in_turns_drawn (amends i o) f h g =
+    let z : measure_out (amends i o) f (turn_undrawn f.session.next_stamp) ≡ turn_undrawn f.session.next_stamp stands h.0.was = ap (of_incoming (turn_undrawn f.session.next_stamp stands)) h.0.there in
+    turn_drawn (f.session.next_stamp + 0) stands o (omega (arith, turn_below f.session.next_stamp stands h.0.was (omega arith), h.1.turn))
+in_turns_drawn (requeues s i o) f h g = turn_drawn (f.session.next_stamp + 1) incoming o (omega (arith, h.2))
+in_turns_drawn _ f h g = refl
 
-pub early_apply : (e : Event) (f : MatchState) → MayApply e f → Roomy e f → ConsistentQueues f.queues → Single f → everywhere (late f.session.next_stamp) f ≡ 0 →
-    everywhere (late (apply e f).session.next_stamp) (apply e f) ≡ 0
-early_apply e f h room g s k =
+pub turns_drawn_apply : (e : Event) (f : MatchState) → MayApply e f → RoomFor e f → ConsistentQueues f.queues → NumbersUnique f → everywhere (turn_undrawn f.session.next_stamp) f ≡ 0 →
+    everywhere (turn_undrawn (apply e f).session.next_stamp) (apply e f) ≡ 0
+turns_drawn_apply e f h room g s k =
     let n : ℕ = f.session.next_stamp in
-    let t = taken_up (late n) e f h in
-    let c = coming_early e f h (omega arith) in
-    let l = over_le (untouched_queues e f) None (late (n + event_stamps e)) (late n) (fewer_late n (event_stamps e)) in
-    subst (λ m. everywhere (late m) (apply e f) ≡ 0) (sym (stamp_is e f room)) (omega (arith, put_down (late (n + event_stamps e)) e f h g s))
+    let t = before_event (turn_undrawn n) e f h in
+    let c = in_turns_drawn e f h (omega arith) in
+    let l = over_le (untouched_queues e f) None (turn_undrawn (n + event_stamps e)) (turn_undrawn n) (turns_undrawn_fall n (event_stamps e)) in
+    subst (λ m. everywhere (turn_undrawn m) (apply e f) ≡ 0) (sym (stamp_is e f room)) (omega (arith, after_event (turn_undrawn (n + event_stamps e)) e f h g s))

@@ -18,122 +18,122 @@ use Rattle.validation.specs.Cells.{blanks_first, in_range, if_filled, firm_in, i
 use Rattle.validation.specs.Combinations.{is_stop, disclosed_barred, barred}
 use Rattle.validation.specs.Entries.{wrong_blank, type_in_cell, order_type_of, typed_entry, if_allowed, validate_entry}
 use Rattle.validation.specs.Changes.{wrong_change_blank, typed_change, validity_barred, if_lasting, validate_change}
-use Rattle.laws.proofs.ConsistentQueues.{Low}
-use Rattle.laws.proofs.RowsInBounds.{Allowed}
-use Rattle.laws.proofs.EntryArrives.{OrderTypeLow, Proper}
+use Rattle.laws.proofs.ConsistentQueues.{InPriceRange}
+use Rattle.laws.proofs.RowsInBounds.{QuantityAllowed}
+use Rattle.laws.proofs.EntryArrives.{PricesInRange, ValidEntry}
 
 -- of the value of an Ok, or of a Some
-abbrev pub InOk : {A : Type 0} → (A → Type 0) → Result A Refusal → Type 0
-InOk P (Ok x) = P x
-InOk P (Err e) = Unit {0}
+abbrev pub IfOk : {A : Type 0} → (A → Type 0) → Result A Refusal → Type 0
+IfOk P (Ok x) = P x
+IfOk P (Err e) = Unit {0}
 
-abbrev pub InSome : {A : Type 0} → (A → Type 0) → Option A → Type 0
-InSome P (Some x) = P x
-InSome P None = Unit {0}
+abbrev pub IfSome : {A : Type 0} → (A → Type 0) → Option A → Type 0
+IfSome P (Some x) = P x
+IfSome P None = Unit {0}
 
-pub ok_then : {A B : Type 0} (Q : A → Type 0) (P : B → Type 0) (r : Result A Refusal) (k : A → Result B Refusal) → InOk Q r → ((x : A) → Q x → InOk P (k x)) →
-    InOk P (and_then r k)
+pub ok_then : {A B : Type 0} (Q : A → Type 0) (P : B → Type 0) (r : Result A Refusal) (k : A → Result B Refusal) → IfOk Q r → ((x : A) → Q x → IfOk P (k x)) →
+    IfOk P (and_then r k)
 ok_then Q P (Ok x) k h next = next x h
 ok_then Q P (Err e) k h next = tt
 
-pub any_ok : {A : Type 0} (r : Result A Refusal) → InOk (λ _. Unit {0}) r
+pub any_ok : {A : Type 0} (r : Result A Refusal) → IfOk (λ _. Unit {0}) r
 any_ok (Ok x) = tt
 any_ok (Err e) = tt
 
 -- a step of a reading whose value does not matter
-skip : {A B : Type 0} (P : B → Type 0) (r : Result A Refusal) (k : A → Result B Refusal) → ((x : A) → InOk P (k x)) → InOk P (and_then r k)
-skip P (Ok x) k next = next x
-skip P (Err e) k next = tt
+any_then : {A B : Type 0} (P : B → Type 0) (r : Result A Refusal) (k : A → Result B Refusal) → ((x : A) → IfOk P (k x)) → IfOk P (and_then r k)
+any_then P (Ok x) k next = next x
+any_then P (Err e) k next = tt
 
-number_ok : (low high at v : ℕ) → InOk (λ n. (low ≤ n) × (n ≤ high)) (number_in low high at v)
-number_ok low high at v = cond_both (leb low v && leb v high) (Ok v) (Err _) (InOk (λ n. (low ≤ n) × (n ≤ high)))
+number_ok : (low high at v : ℕ) → IfOk (λ n. (low ≤ n) × (n ≤ high)) (number_in low high at v)
+number_ok low high at v = cond_both (leb low v && leb v high) (Ok v) (Err _) (IfOk (λ n. (low ≤ n) × (n ≤ high)))
     (λ e. let a = and_parts (leb low v) (leb v high) e in (leb-true low v a.0, leb-true v high a.1)) (λ _. tt)
 
-price_ok : (at : ℕ) (p : Price) → InOk Low (price_in at p)
-price_ok at p = cond_both (in_price_range p) (Ok p) (Err _) (InOk Low) (λ e. let a = and_parts (leb 1 p.hundredths) (leb p.hundredths 99999999) e in omega
+price_ok : (at : ℕ) (p : Price) → IfOk InPriceRange (price_in at p)
+price_ok at p = cond_both (in_price_range p) (Ok p) (Err _) (IfOk InPriceRange) (λ e. let a = and_parts (leb 1 p.hundredths) (leb p.hundredths 99999999) e in omega
     (arith, leb-true p.hundredths 99999999 a.1)) (λ _. tt)
 
-filled_ok : {A B : Type 0} (P : B → Type 0) (f : A → Result B Refusal) → ((a : A) → InOk P (f a)) → (m : Option A) → InOk (InSome P) (if_filled f m)
+filled_ok : {A B : Type 0} (P : B → Type 0) (f : A → Result B Refusal) → ((a : A) → IfOk P (f a)) → (m : Option A) → IfOk (IfSome P) (if_filled f m)
 filled_ok P f h None = tt
 filled_ok P f h (Some v) = go (f v) (h v)
   where
-    go : (r : Result _ Refusal) → InOk P r → InOk (InSome P) (and_then r (λ w. Ok (Some w)))
+    go : (r : Result _ Refusal) → IfOk P r → IfOk (IfSome P) (and_then r (λ w. Ok (Some w)))
     go (Ok x) k = k
     go (Err e) k = tt
 
-kind_ok : (type : TypeCode) (price trigger : Option Price) → InSome Low price → InSome Low trigger → InOk OrderTypeLow (order_type_of type price trigger)
-kind_ok LimitType (Some limit) trigger p t = p
-kind_ok LimitType None trigger p t = tt
-kind_ok MarketType price trigger p t = tt
-kind_ok StopType (Some limit) (Some trigger) p t = (p, t)
-kind_ok StopType (Some limit) None p t = tt
-kind_ok StopType None trigger p t = tt
+order_type_ok : (type : TypeCode) (price trigger : Option Price) → IfSome InPriceRange price → IfSome InPriceRange trigger → IfOk PricesInRange (order_type_of type price trigger)
+order_type_ok LimitType (Some limit) trigger p t = p
+order_type_ok LimitType None trigger p t = tt
+order_type_ok MarketType price trigger p t = tt
+order_type_ok StopType (Some limit) (Some trigger) p t = (p, t)
+order_type_ok StopType (Some limit) None p t = tt
+order_type_ok StopType None trigger p t = tt
 
-pub allowed_from : (q d : ℕ) → 1 ≤ q → q ≤ 1000000 → disclosed_barred q d ≡ false → Allowed q d
+pub allowed_from : (q d : ℕ) → 1 ≤ q → q ≤ 1000000 → disclosed_barred q d ≡ false → QuantityAllowed q d
 allowed_from q d some few e = record { some = some; few = few; parts = λ h. grind (arith, nat_tests) }
 
-pub record Ranged (a : NewOrder) : Type 0 where
-  pub low : OrderTypeLow a.order_type
+pub record EntryInRanges (a : NewOrder) : Type 0 where
+  pub price_in_range : PricesInRange a.order_type
   pub some : 1 ≤ a.quantity
   pub few : a.quantity ≤ 1000000
 
-typed_ok : (f : EntryForm) → InOk Ranged (typed_entry f)
+typed_ok : (f : EntryForm) → IfOk EntryInRanges (typed_entry f)
 typed_ok f =
-    skip Ranged (firm_in 1 (unwrap_or f.firm 0)) _ (λ firm.
-    skip Ranged (identifier_in 2 (unwrap_or f.client 0)) _ (λ client.
-    skip Ranged (side_in 3 (unwrap_or f.side 0)) _ (λ side.
-    skip Ranged (in_range 4 (type_in_cell f.order_type)) _ (λ type.
-    skip Ranged (validity_in 5 (unwrap_or f.validity 0)) _ (λ validity.
-    ok_then (InSome Low) Ranged (if_filled (price_in 6) f.price) _ (filled_ok Low (price_in 6) (price_ok 6) f.price) (λ price p.
-    ok_then (InSome Low) Ranged (if_filled (price_in 7) f.trigger) _ (filled_ok Low (price_in 7) (price_ok 7) f.trigger) (λ trigger t.
-    ok_then (λ n. (1 ≤ n) × (n ≤ 1000000)) Ranged (lots_in 1 8 (unwrap_or f.quantity 0)) _ (number_ok 1 1000000 8 (unwrap_or f.quantity 0)) (λ quantity q.
-    skip Ranged (lots_in 0 9 (unwrap_or f.disclosed 0)) _ (λ disclosed.
-    skip Ranged (lots_in 0 10 (unwrap_or f.minimum 0)) _ (λ minimum.
-    skip Ranged (investor_in 11 (unwrap_or f.investor 0)) _ (λ investor.
-    skip Ranged (tag_in 12 (unwrap_or f.tag 0)) _ (λ tag.
-    ok_then OrderTypeLow Ranged (order_type_of type price trigger) _ (kind_ok type price trigger p t) (λ order_type k.
-    record { low = k; some = q.0; few = q.1 })))))))))))))
+    any_then EntryInRanges (firm_in 1 (unwrap_or f.firm 0)) _ (λ firm.
+    any_then EntryInRanges (identifier_in 2 (unwrap_or f.client 0)) _ (λ client.
+    any_then EntryInRanges (side_in 3 (unwrap_or f.side 0)) _ (λ side.
+    any_then EntryInRanges (in_range 4 (type_in_cell f.order_type)) _ (λ type.
+    any_then EntryInRanges (validity_in 5 (unwrap_or f.validity 0)) _ (λ validity.
+    ok_then (IfSome InPriceRange) EntryInRanges (if_filled (price_in 6) f.price) _ (filled_ok InPriceRange (price_in 6) (price_ok 6) f.price) (λ price p.
+    ok_then (IfSome InPriceRange) EntryInRanges (if_filled (price_in 7) f.trigger) _ (filled_ok InPriceRange (price_in 7) (price_ok 7) f.trigger) (λ trigger t.
+    ok_then (λ n. (1 ≤ n) × (n ≤ 1000000)) EntryInRanges (lots_in 1 8 (unwrap_or f.quantity 0)) _ (number_ok 1 1000000 8 (unwrap_or f.quantity 0)) (λ quantity q.
+    any_then EntryInRanges (lots_in 0 9 (unwrap_or f.disclosed 0)) _ (λ disclosed.
+    any_then EntryInRanges (lots_in 0 10 (unwrap_or f.minimum 0)) _ (λ minimum.
+    any_then EntryInRanges (investor_in 11 (unwrap_or f.investor 0)) _ (λ investor.
+    any_then EntryInRanges (tag_in 12 (unwrap_or f.tag 0)) _ (λ tag.
+    ok_then PricesInRange EntryInRanges (order_type_of type price trigger) _ (order_type_ok type price trigger p t) (λ order_type k.
+    record { price_in_range = k; some = q.0; few = q.1 })))))))))))))
 
-allowed_ok : (a : NewOrder) → Ranged a → InOk Proper (if_allowed a)
-allowed_ok a r = cond_both (barred a) (Err _) (Ok a) (InOk Proper) (λ _. tt)
+allowed_ok : (a : NewOrder) → EntryInRanges a → IfOk ValidEntry (if_allowed a)
+allowed_ok a r = cond_both (barred a) (Err _) (Ok a) (IfOk ValidEntry) (λ _. tt)
     (λ e. let b = or_parts (is_stop a.order_type && (is_immediate a.validity || ltb 0 a.minimum))
     ((is_immediate a.validity && ltb 0 a.disclosed) || (ltb a.quantity a.minimum || disclosed_barred a.quantity a.disclosed)) e in
     let c = or_parts (is_immediate a.validity && ltb 0 a.disclosed) (ltb a.quantity a.minimum || disclosed_barred a.quantity a.disclosed) b.1 in
     let d = or_parts (ltb a.quantity a.minimum) (disclosed_barred a.quantity a.disclosed) c.1 in
-    record { allowed = allowed_from a.quantity a.disclosed r.some r.few d.1; low = r.low })
+    record { allowed = allowed_from a.quantity a.disclosed r.some r.few d.1; price_in_range = r.price_in_range })
 
-pub entry_ok : (f : EntryForm) → InOk Proper (validate_entry f)
+pub entry_ok : (f : EntryForm) → IfOk ValidEntry (validate_entry f)
 entry_ok f = go (wrong_blank f)
   where
-    go : (m : Option ℕ) → InOk Proper (blanks_first m (and_then (typed_entry f) if_allowed))
-    go None = ok_then Ranged Proper (typed_entry f) if_allowed (typed_ok f) allowed_ok
+    go : (m : Option ℕ) → IfOk ValidEntry (blanks_first m (and_then (typed_entry f) if_allowed))
+    go None = ok_then EntryInRanges ValidEntry (typed_entry f) if_allowed (typed_ok f) allowed_ok
     go (Some cell) = tt
 
-pub record WithinRanges (c : Amendment) : Type 0 where
-  pub price : InSome Low c.price
-  pub quantity : InSome (λ n. (1 ≤ n) × (n ≤ 1000000)) c.quantity
+pub record ChangeInRanges (c : Amendment) : Type 0 where
+  pub price : IfSome InPriceRange c.price
+  pub quantity : IfSome (λ n. (1 ≤ n) × (n ≤ 1000000)) c.quantity
 
-abbrev AmendRequestRanged : AmendRequest → Type 0
-AmendRequestRanged a = WithinRanges a.change
+abbrev RequestInRanges : AmendRequest → Type 0
+RequestInRanges a = ChangeInRanges a.change
 
-typed_change_ok : (f : ChangeForm) → InOk AmendRequestRanged (typed_change f)
+typed_change_ok : (f : ChangeForm) → IfOk RequestInRanges (typed_change f)
 typed_change_ok f =
-    skip AmendRequestRanged (firm_in 1 (unwrap_or f.firm 0)) _ (λ firm.
-    skip AmendRequestRanged (identifier_in 2 (unwrap_or f.client 0)) _ (λ client.
-    skip AmendRequestRanged (identifier_in 3 (unwrap_or f.number 0)) _ (λ number.
-    ok_then (InSome Low) AmendRequestRanged (if_filled (price_in 4) f.price) _ (filled_ok Low (price_in 4) (price_ok 4) f.price) (λ price p.
-    ok_then (InSome (λ n. (1 ≤ n) × (n ≤ 1000000))) AmendRequestRanged (if_filled (lots_in 1 5) f.quantity) _
+    any_then RequestInRanges (firm_in 1 (unwrap_or f.firm 0)) _ (λ firm.
+    any_then RequestInRanges (identifier_in 2 (unwrap_or f.client 0)) _ (λ client.
+    any_then RequestInRanges (identifier_in 3 (unwrap_or f.number 0)) _ (λ number.
+    ok_then (IfSome InPriceRange) RequestInRanges (if_filled (price_in 4) f.price) _ (filled_ok InPriceRange (price_in 4) (price_ok 4) f.price) (λ price p.
+    ok_then (IfSome (λ n. (1 ≤ n) × (n ≤ 1000000))) RequestInRanges (if_filled (lots_in 1 5) f.quantity) _
     (filled_ok (λ n. (1 ≤ n) × (n ≤ 1000000)) (lots_in 1 5) (number_ok 1 1000000 5) f.quantity) (λ quantity q.
-    skip AmendRequestRanged (if_filled (lots_in 0 6) f.disclosed) _ (λ disclosed.
-    skip AmendRequestRanged (if_filled (validity_in 7) f.validity) _ (λ validity.
+    any_then RequestInRanges (if_filled (lots_in 0 6) f.disclosed) _ (λ disclosed.
+    any_then RequestInRanges (if_filled (validity_in 7) f.validity) _ (λ validity.
     record { price = p; quantity = q })))))))
 
-pub change_ok : (f : ChangeForm) → InOk AmendRequestRanged (validate_change f)
+pub change_ok : (f : ChangeForm) → IfOk RequestInRanges (validate_change f)
 change_ok f = go (wrong_change_blank f)
   where
-    lasting : (a : AmendRequest) → AmendRequestRanged a → InOk AmendRequestRanged (if_lasting a)
-    lasting a r = cond_both (validity_barred a.change.validity) (Err _) (Ok a) (InOk AmendRequestRanged) (λ _. tt) (λ _. r)
+    lasting : (a : AmendRequest) → RequestInRanges a → IfOk RequestInRanges (if_lasting a)
+    lasting a r = cond_both (validity_barred a.change.validity) (Err _) (Ok a) (IfOk RequestInRanges) (λ _. tt) (λ _. r)
 
-    go : (m : Option ℕ) → InOk AmendRequestRanged (blanks_first m (and_then (typed_change f) if_lasting))
-    go None = ok_then AmendRequestRanged AmendRequestRanged (typed_change f) if_lasting (typed_change_ok f) lasting
+    go : (m : Option ℕ) → IfOk RequestInRanges (blanks_first m (and_then (typed_change f) if_lasting))
+    go None = ok_then RequestInRanges RequestInRanges (typed_change f) if_lasting (typed_change_ok f) lasting
     go (Some cell) = tt

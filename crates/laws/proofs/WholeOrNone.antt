@@ -38,63 +38,63 @@ use Rattle.laws.specs.Reaching.{ReachMeans, Filled, AlwaysFilled}
 use Rattle.laws.proofs.RowsInBounds.{order_from_row}
 use Rattle.laws.proofs.EventsApply.{MayApply}
 use Rattle.laws.proofs.LinesAndStamps.{tape, tape_is}
-use Rattle.laws.proofs.RunsToRest.{consistent_apply, Quiescent, quiescent_run_to_rest, run_to_rest_leads}
-use Rattle.laws.proofs.EntryArrives.{Proper, fits_arrival}
-use Rattle.laws.proofs.RoomSuffices.{Supplied, Begins, roomy_begin, enough_begin, begins_arrival}
-use Rattle.laws.proofs.ValidatedRanges.{InOk, ok_then, any_ok}
+use Rattle.laws.proofs.RunsToRest.{consistent_apply, Quiescent, quiescent_run_to_rest, run_to_rest_runs}
+use Rattle.laws.proofs.EntryArrives.{ValidEntry, may_apply_arrival}
+use Rattle.laws.proofs.RoomSuffices.{RoomForStep, BeginsStep, first_has_room, rest_has_room_at_first, begins_arrival}
+use Rattle.laws.proofs.ValidatedRanges.{IfOk, ok_then, any_ok}
 use Rattle.laws.proofs.EachForm.{EntryGiven, entry_given}
-use Rattle.laws.proofs.WholeRuns.{quiescent_after, quiescent_set_up, agrees_set_up}
-use Rattle.laws.proofs.ReachFalls.{reach_endless}
-use Rattle.laws.proofs.TradesReach.{leads_more, leads_quantity, early_stands, traded_on, run_to_rest_trades}
+use Rattle.laws.proofs.WholeRuns.{quiescent_after, quiescent_set_up, tally_agrees_set_up}
+use Rattle.laws.proofs.ReachFalls.{reach_is_unlimited_trade}
+use Rattle.laws.proofs.TradesReach.{runs_to_more, runs_to_quantity, standing_turns_drawn, traded_on, run_to_rest_trades}
 
 -- what is not barred
 
-pub record OpenTerms (a : NewOrder) : Type 0 where
+pub record NotBarred (a : NewOrder) : Type 0 where
   pub stop : (is_stop a.order_type && (is_immediate a.validity || ltb 0 a.minimum)) ≡ false
   pub least : a.minimum ≤ a.quantity
 
-terms_ok : (a : NewOrder) → InOk OpenTerms (if_allowed a)
-terms_ok a = cond_both (barred a) (Err Barred) (Ok a) (InOk OpenTerms) (λ _. tt)
+not_barred_ok : (a : NewOrder) → IfOk NotBarred (if_allowed a)
+not_barred_ok a = cond_both (barred a) (Err Barred) (Ok a) (IfOk NotBarred) (λ _. tt)
     (λ e. let b = or_parts (is_stop a.order_type && (is_immediate a.validity || ltb 0 a.minimum))
     ((is_immediate a.validity && ltb 0 a.disclosed) || (ltb a.quantity a.minimum || disclosed_barred a.quantity a.disclosed)) e in
     let c = or_parts (is_immediate a.validity && ltb 0 a.disclosed) (ltb a.quantity a.minimum || disclosed_barred a.quantity a.disclosed) b.1 in
     let d = or_parts (ltb a.quantity a.minimum) (disclosed_barred a.quantity a.disclosed) c.1 in
     record { stop = b.0; least = ltb-false a.quantity a.minimum d.0 })
 
-entry_terms : (form : EntryForm) → InOk OpenTerms (validate_entry form)
-entry_terms form = go (wrong_blank form)
+entry_not_barred : (form : EntryForm) → IfOk NotBarred (validate_entry form)
+entry_not_barred form = go (wrong_blank form)
   where
-    go : (m : Option ℕ) → InOk OpenTerms (blanks_first m (and_then (typed_entry form) if_allowed))
-    go None = ok_then (λ _. Unit {0}) OpenTerms (typed_entry form) if_allowed (any_ok (typed_entry form)) (λ a _. terms_ok a)
+    go : (m : Option ℕ) → IfOk NotBarred (blanks_first m (and_then (typed_entry form) if_allowed))
+    go None = ok_then (λ _. Unit {0}) NotBarred (typed_entry form) if_allowed (any_ok (typed_entry form)) (λ a _. not_barred_ok a)
     go (Some cell) = tt
 
 -- an order that wants all never waits
-wants_fleeting : (v : Validity) → all_or_none v ≡ true → is_immediate v ≡ true
-wants_fleeting ForDay e = e
-wants_fleeting Gtc e = e
-wants_fleeting Ioc e = refl
-wants_fleeting Fok e = refl
+all_is_immediate : (v : Validity) → all_or_none v ≡ true → is_immediate v ≡ true
+all_is_immediate ForDay e = e
+all_is_immediate Gtc e = e
+all_is_immediate Ioc e = refl
+all_is_immediate Fok e = refl
 
-module _ (a : NewOrder) (f : MatchState) (p : Proper a) (u : OpenTerms a) (s : Supplied f) (c : Quiescent f) where
-  abbrev EndsFilled : Event → Type 0
-  EndsFilled e = Begins e → MayApply e f → Filled a (traded_on f.session.next_stamp (run_to_rest (apply e f)))
+module _ (a : NewOrder) (f : MatchState) (p : ValidEntry a) (u : NotBarred a) (s : RoomForStep f) (c : Quiescent f) where
+  abbrev FilledAfter : Event → Type 0
+  FilledAfter e = BeginsStep e → MayApply e f → Filled a (traded_on f.session.next_stamp (run_to_rest (apply e f)))
 
   -- nothing was traded under a number that is not drawn yet
   none_yet : traded_on f.session.next_stamp f ≡ 0
-  none_yet = omega (arith, c.consistent.counts.accounts f.session.next_stamp, c.consistent.counts.unborn f.session.next_stamp (omega arith))
+  none_yet = omega (arith, c.consistent.accounted.balanced f.session.next_stamp, c.consistent.accounted.unused f.session.next_stamp (omega arith))
 
   -- lots are accounted for at the step's end
-  upper : (e : Event) (b : Begins e) (fit : MayApply e f) →
+  traded_at_most : (e : Event) (b : BeginsStep e) (fit : MayApply e f) →
       traded_on f.session.next_stamp (run_to_rest (apply e f)) + total (cancelled_lots f.session.next_stamp) (event_lines e ++ tape f) ≤ quantity_of f.session.next_stamp (event_lines e ++ tape f)
-  upper e b fit =
+  traded_at_most e b fit =
       let n : ℕ = f.session.next_stamp in
-      let room = roomy_begin e f b fit s in
-      let enough = enough_begin e f b fit s in
+      let room = first_has_room e f b fit s in
+      let enough = rest_has_room_at_first e f b fit s in
       let consistent = consistent_apply e f fit room c.consistent in
-      let leads = run_to_rest_leads (apply e f) consistent enough in
+      let leads = run_to_rest_runs (apply e f) consistent enough in
       let t : total (cancelled_lots n) (tape (apply e f)) ≡ total (cancelled_lots n) (event_lines e ++ tape f) = ap (total (cancelled_lots n)) (tape_is e f room) in
       let q : quantity_of n (tape (apply e f)) ≡ quantity_of n (event_lines e ++ tape f) = ap (quantity_of n) (tape_is e f room) in
-      omega (arith, leads_more (cancelled_lots n) leads, leads_quantity n leads, (quiescent_run_to_rest (apply e f) consistent enough).consistent.counts.accounts n)
+      omega (arith, runs_to_more (cancelled_lots n) leads, runs_to_quantity n leads, (quiescent_run_to_rest (apply e f) consistent enough).consistent.accounted.balanced n)
 
   whole : (price : Price) → (entered_order a price f.session.next_stamp).open_lots ≡ a.quantity
   whole price = ap (λ (r : OrderRow). r.open_lots) (order_from_row a price f.session.next_stamp p.allowed)
@@ -105,30 +105,30 @@ module _ (a : NewOrder) (f : MatchState) (p : Proper a) (u : OpenTerms a) (s : S
   nothing : (lots : ℕ) → lots ≡ 0 → Filled a lots
   nothing lots e = (λ _. inl e, inl e)
 
-  filled_accepts_and_cancels : (cause : Cause) (price : Price) → EndsFilled (accepts_and_cancels cause (entered_order a price f.session.next_stamp))
+  filled_accepts_and_cancels : (cause : Cause) (price : Price) → FilledAfter (accepts_and_cancels cause (entered_order a price f.session.next_stamp))
   filled_accepts_and_cancels cause price b fit =
       let n : ℕ = f.session.next_stamp in
       let o : Order = entered_order a price n in
-      nothing (traded_on n (run_to_rest (apply (accepts_and_cancels cause o) f))) (omega (arith, upper (accepts_and_cancels cause o) b fit, at_number o.open_lots 0, at_number o.quantity (quantity_of n (tape f))))
+      nothing (traded_on n (run_to_rest (apply (accepts_and_cancels cause o) f))) (omega (arith, traded_at_most (accepts_and_cancels cause o) b fit, at_number o.open_lots 0, at_number o.quantity (quantity_of n (tape f))))
 
-  filled_accepts_unmatched : EndsFilled (accepts_unmatched f.session.next_stamp a.quantity)
+  filled_accepts_unmatched : FilledAfter (accepts_unmatched f.session.next_stamp a.quantity)
   filled_accepts_unmatched b fit =
       let n : ℕ = f.session.next_stamp in
       nothing (traded_on n (run_to_rest (apply (accepts_unmatched n a.quantity) f))) (omega
-      (arith, upper (accepts_unmatched n a.quantity) b fit, at_number a.quantity 0, at_number a.quantity (quantity_of n (tape f))))
+      (arith, traded_at_most (accepts_unmatched n a.quantity) b fit, at_number a.quantity 0, at_number a.quantity (quantity_of n (tape f))))
 
-  filled_accepts : (price : Price) → falls_short a (entered_order a price f.session.next_stamp) f.queues ≡ false → EndsFilled (accepts (entered_order a price f.session.next_stamp))
+  filled_accepts : (price : Price) → falls_short a (entered_order a price f.session.next_stamp) f.queues ≡ false → FilledAfter (accepts (entered_order a price f.session.next_stamp))
   filled_accepts price e b fit =
       let n : ℕ = f.session.next_stamp in
       let o : Order = entered_order a price n in
       let ev : Event = accepts o in
       let R : ℕ = reach o (at (opposite o.side) f.queues.stands) in
-      let room = roomy_begin ev f b fit s in
+      let room = first_has_room ev f b fit s in
       let k = or_parts (ltb R a.minimum) (all_or_none a.validity && ltb R a.quantity) e in
       let least = ltb-false R a.minimum k.0 in
-      let at_least_lem = run_to_rest_trades (apply ev f) o (consistent_apply ev f fit room c.consistent) (enough_begin ev f b fit s) refl in
+      let at_least_lem = run_to_rest_trades (apply ev f) o (consistent_apply ev f fit room c.consistent) (rest_has_room_at_first ev f b fit s) refl in
       let now : traded_on n (apply ev f) ≡ 0 + traded_on n f = ap (total (traded_lots n)) (tape_is ev f room) in
-      let top = upper ev b fit in
+      let top = traded_at_most ev b fit in
       let q = at_number o.quantity (quantity_of n (tape f)) in
       let w = whole price in
       let lots : ℕ = traded_on n (run_to_rest (apply ev f)) in (
@@ -141,49 +141,49 @@ module _ (a : NewOrder) (f : MatchState) (p : Proper a) (u : OpenTerms a) (s : S
       whole_of {A} {R} {Q} true e k next = next (ltb-false R Q k)
       whole_of {A} {R} {Q} false e k next = absurd (both_ways false refl e)
 
-  filled_judged : (price : Price) → EndsFilled (accepts_or_cancels a (entered_order a price f.session.next_stamp) f.queues)
-  filled_judged price =
+  filled_accepts_or_cancels : (price : Price) → FilledAfter (accepts_or_cancels a (entered_order a price f.session.next_stamp) f.queues)
+  filled_accepts_or_cancels price =
       let o : Order = entered_order a price f.session.next_stamp in
-      cond_both (falls_short a o f.queues) (accepts_and_cancels ShortReach o) (accepts o) EndsFilled (λ _. filled_accepts_and_cancels ShortReach price) (λ e. filled_accepts price e)
+      cond_both (falls_short a o f.queues) (accepts_and_cancels ShortReach o) (accepts o) FilledAfter (λ _. filled_accepts_and_cancels ShortReach price) (λ e. filled_accepts price e)
 
   filled_stop : is_stop a.order_type ≡ true → (lots : ℕ) → Filled a lots
   filled_stop e lots =
       let k = plain (is_stop a.order_type) (is_immediate a.validity) (ltb 0 a.minimum) e u.stop in
-      ((λ all. absurd (both_ways (is_immediate a.validity) k.0 (wants_fleeting a.validity all))), inr (omega (arith, ltb-false 0 a.minimum k.1)))
+      ((λ all. absurd (both_ways (is_immediate a.validity) k.0 (all_is_immediate a.validity all))), inr (omega (arith, ltb-false 0 a.minimum k.1)))
     where
       plain : (x y z : Bool) → x ≡ true → (x && (y || z)) ≡ false → (y ≡ false) × (z ≡ false)
       plain true y z e h = or_parts y z h
       plain false y z e h = absurd (both_ways false refl e)
 
-  filled_kind : (k : OrderType) → a.order_type ≡ k → EndsFilled (arrival_as k a f.session.next_stamp f.queues)
-  filled_kind (Limit price) e = filled_judged price
-  filled_kind Market e = go (first_order (opposite a.side) f.queues)
+  filled_arrival_as : (k : OrderType) → a.order_type ≡ k → FilledAfter (arrival_as k a f.session.next_stamp f.queues)
+  filled_arrival_as (Limit price) e = filled_accepts_or_cancels price
+  filled_arrival_as Market e = go (first_order (opposite a.side) f.queues)
     where
-      go : (m : Option Order) → EndsFilled (market_arrival a f.session.next_stamp m f.queues)
+      go : (m : Option Order) → FilledAfter (market_arrival a f.session.next_stamp m f.queues)
       go None = filled_accepts_unmatched
-      go (Some r) = filled_judged r.price
-  filled_kind (StopLimit limit trigger) e = λ _ _. filled_stop (ap is_stop e) _
+      go (Some r) = filled_accepts_or_cancels r.price
+  filled_arrival_as (StopLimit limit trigger) e = λ _ _. filled_stop (ap is_stop e) _
 
   pub filled_enter : Filled a (traded_on f.session.next_stamp (enter a f))
-  filled_enter = filled_kind a.order_type refl (begins_arrival a f.session.next_stamp f.queues) (fits_arrival a f p c)
+  filled_enter = filled_arrival_as a.order_type refl (begins_arrival a f.session.next_stamp f.queues) (may_apply_arrival a f p c)
 
 -- in every state of a run
 
-filled_told : (form : EntryForm) (f : MatchState) (a : NewOrder) (r : Result NewOrder Refusal) → Quiescent f → InOk (EntryGiven form f) r → OpenTerms a →
+filled_answered : (form : EntryForm) (f : MatchState) (a : NewOrder) (r : Result NewOrder Refusal) → Quiescent f → IfOk (EntryGiven form f) r → NotBarred a →
     validate_entry form ≡ Ok a → answered r ≡ Ok tt → Filled a (traded_on f.session.next_stamp (after_answer enter r f))
-filled_told form f a (Ok b) c h u e k =
+filled_answered form f a (Ok b) c h u e k =
     let z : b ≡ a = same b a (sym h.2 ∙ e) in
-    subst (λ (x : NewOrder). Filled a (traded_on f.session.next_stamp (enter x f))) (sym z) (filled_enter a f (subst Proper z h.0) u h.1 c)
+    subst (λ (x : NewOrder). Filled a (traded_on f.session.next_stamp (enter x f))) (sym z) (filled_enter a f (subst ValidEntry z h.0) u h.1 c)
   where
     same : (x y : NewOrder) → ◌≡◌ {A = Result NewOrder Refusal} (Ok x) (Ok y) → x ≡ y
     same x y e = cc
-filled_told form f a (Err x) c h u e k = let z : ◌≡◌ {A = ℕ} 0 1 = cc in absurd (omega arith)
+filled_answered form f a (Err x) c h u e k = let z : ◌≡◌ {A = ℕ} 0 1 = cc in absurd (omega arith)
 
-filled_on : (d : Day) (form : EntryForm) (q : Queues) (r : Log) (a : NewOrder) → Quiescent (between_steps q r (session_of d)) → OpenTerms a → validate_entry form ≡ Ok a →
+filled_on : (d : Day) (form : EntryForm) (q : Queues) (r : Log) (a : NewOrder) → Quiescent (between_steps q r (session_of d)) → NotBarred a → validate_entry form ≡ Ok a →
     answer_on d (Entry form) q r ≡ Ok tt → Filled a (total (traded_lots (session_of d).next_stamp) (step_on d (Entry form) q r).tape.lines)
 filled_on (Open o) form q r a c u e k =
     let f : MatchState = between_steps q r o.session in
-    filled_told form f a (entry_answer form f) c (entry_given form f) u e k
+    filled_answered form f a (entry_answer form f) c (entry_given form f) u e k
 filled_on (Closed o) form q r a c u e k = absurd (never (validate_entry form) k)
   where
     never : (x : Result NewOrder Refusal) → ◌≡◌ {A = Result (Unit {0}) Refusal} (and_then {A = NewOrder} {B = Unit {0}} x (λ _. Err WrongDay)) (Ok tt) → ⊥
@@ -195,14 +195,14 @@ always_filled day stamp q limit forms form a e k =
     let z : State = set_up day stamp q limit in
     let t : Tally = starting (at_least_1 stamp) in
     let s : State = after forms z in
-    let h = quiescent_after forms z t (quiescent_set_up day stamp q limit) (agrees_set_up day stamp q limit) in
-    filled_on s.day form s.queues s.tape a h.0 (subst (InOk OpenTerms) e (entry_terms form)) e k
+    let h = quiescent_after forms z t (quiescent_set_up day stamp q limit) (tally_agrees_set_up day stamp q limit) in
+    filled_on s.day form s.queues s.tape a h.0 (subst (IfOk NotBarred) e (entry_not_barred form)) e k
 
 pub reach_means : ReachMeans
 reach_means day stamp q limit forms o trades m =
     let z : State = set_up day stamp q limit in
     let t : Tally = starting (at_least_1 stamp) in
     let f : MatchState = state_between_steps (after forms z) in
-    let h = quiescent_after forms z t (quiescent_set_up day stamp q limit) (agrees_set_up day stamp q limit) in
+    let h = quiescent_after forms z t (quiescent_set_up day stamp q limit) (tally_agrees_set_up day stamp q limit) in
     let y = opposite o.side in
-    reach_endless trades f.session.next_stamp o (at (opposite o.side) f.queues.stands) (h.0.consistent.queues.sorted y) (h.0.consistent.queues.sided y) (early_stands y f h.0.consistent.early) m
+    reach_is_unlimited_trade trades f.session.next_stamp o (at (opposite o.side) f.queues.stands) (h.0.consistent.queues.sorted y) (h.0.consistent.queues.on_side y) (standing_turns_drawn y f h.0.consistent.turns_below) m

@@ -15,76 +15,76 @@ use Rattle.matching.specs.Entering.{arrival, enter}
 use Rattle.matching.specs.Changing.{loses_turn, amended_order, requeued_order, change_at}
 use Rattle.laws.specs.Tally.{Tally, Request, entry, change, noted}
 use Rattle.laws.specs.WithinRoom.{event_lines, Trace, ended, then}
-use Rattle.laws.proofs.EventsWithinRoom.{within_room, run_to_rest_trace, well_arrival}
-use Rattle.laws.proofs.LinesAndStamps.{Roomy}
+use Rattle.laws.proofs.EventsWithinRoom.{within_room, run_to_rest_trace, put_done_arrival}
+use Rattle.laws.proofs.LinesAndStamps.{RoomFor}
 use Rattle.laws.proofs.RunsToRest.{consistent_apply, Quiescent, quiescent_run_to_rest}
 use Rattle.laws.proofs.TallyAgrees.{TallyAgrees}
-use Rattle.laws.proofs.EntryArrives.{Proper, fits_arrival, untraded_arrival, agrees_arrival}
-use Rattle.laws.proofs.ChangeApplies.{Permitted, fits_requeues, fits_amends, agrees_amends, agrees_requeues}
-use Rattle.laws.proofs.LinesTell.{Tells, tells_then, tells_here, tells_run_to_rest, with_agrees}
-use Rattle.laws.proofs.RoomSuffices.{Supplied, roomy_begin, enough_begin, begins_arrival}
-use Rattle.laws.proofs.RemovalsApply.{Swept}
+use Rattle.laws.proofs.EntryArrives.{ValidEntry, may_apply_arrival, no_trade_arrival, tally_agrees_arrival}
+use Rattle.laws.proofs.ChangeApplies.{ValidChange, may_apply_requeues, may_apply_amends, tally_agrees_amends, tally_agrees_requeues}
+use Rattle.laws.proofs.LinesTell.{LinesTell, lines_tell_then, lines_tell_nothing, lines_tell_run_to_rest, agrees_once_rested}
+use Rattle.laws.proofs.RoomSuffices.{RoomForStep, first_has_room, rest_has_room_at_first, begins_arrival}
+use Rattle.laws.proofs.RemovalsApply.{AfterRemovals}
 
-pub record Goes (q : Request) (t : Tally) (f g : MatchState) : Type 0 where
+pub record AfterAccepted (q : Request) (t : Tally) (f g : MatchState) : Type 0 where
   pub quiescent : Quiescent g
-  pub lines_told : Tells q t f g
+  pub lines_tell : LinesTell q t f g
   pub trace : Trace f g
 
-pub goes_swept : (q : Request) (t : Tally) (f g : MatchState) → Swept q t f g → Goes q t f g
-goes_swept q t f g s = record {
+pub accepted_removals : (q : Request) (t : Tally) (f g : MatchState) → AfterRemovals q t f g → AfterAccepted q t f g
+accepted_removals q t f g s = record {
   quiescent = s.quiescent;
-  lines_told = record {
-    said = s.said;
+  lines_tell = record {
+    lines = s.lines;
     tape_grew = s.tape_grew;
     fair = s.fair;
-    with_it = with_agrees g
-        (noted q s.said t) s.matches;
+    agrees = agrees_once_rested g
+        (noted q s.lines t) s.matches;
   };
   trace = s.trace;
 }
 
-pub goes_enter : (a : NewOrder) (f : MatchState) (t : Tally) → Proper a → Supplied f → Quiescent f → TallyAgrees t f → Goes (entry a) t f (enter a f)
-goes_enter a f t p s c m =
+pub accepted_entry : (a : NewOrder) (f : MatchState) (t : Tally) → ValidEntry a → RoomForStep f → Quiescent f → TallyAgrees t f → AfterAccepted (entry a) t f (enter a f)
+accepted_entry a f t p s c m =
     let e : Event = arrival a f.session.next_stamp f.queues in
-    let fit = fits_arrival a f p c in
+    let fit = may_apply_arrival a f p c in
     let b = begins_arrival a f.session.next_stamp f.queues in
-    let room = roomy_begin e f b fit s in
-    let enough = enough_begin e f b fit s in
+    let room = first_has_room e f b fit s in
+    let enough = rest_has_room_at_first e f b fit s in
     let consistent = consistent_apply e f fit room c.consistent in
     let t' : Tally = noted (entry a) (event_lines e) t in
     record {
       quiescent = quiescent_run_to_rest (apply e f) consistent enough;
-      lines_told = tells_then (entry a) t e f (run_to_rest (apply e f)) room (untraded_arrival a f.session.next_stamp f.queues t)
-          (tells_run_to_rest (entry a) t' (apply e f) consistent enough (with_agrees (apply e f) t' (agrees_arrival a f t p c m room)));
-      trace = then e (within_room e f room (well_arrival a f c)) (run_to_rest_trace (apply e f) consistent enough);
+      lines_tell = lines_tell_then (entry a) t e f (run_to_rest (apply e f)) room (no_trade_arrival a f.session.next_stamp f.queues t)
+          (lines_tell_run_to_rest (entry a) t' (apply e f) consistent enough (agrees_once_rested (apply e f) t' (tally_agrees_arrival a f t p c m room)));
+      trace = then e (within_room e f room (put_done_arrival a f c)) (run_to_rest_trace (apply e f) consistent enough);
     }
 
 -- a rewrite leaves the stops alone
 same_stops : (last : Option Price) (i : ℕ) (o : Order) (q : Queues) → Unripe last q → Unripe last (rewritten i (Standing o) q)
 same_stops last i o q h = cond_both (rewrite_allowed i (Standing o) q) (record_set i (Standing o) q) q (Unripe last) (λ _. h) (λ _. h)
 
-pub goes_change : (c : Amendment) (i : ℕ) (o : Order) (f : MatchState) (t : Tally) → slice_get (at o.side f.queues.stands) i ≡ Some o → Permitted c o → Supplied f →
-    Quiescent f → TallyAgrees t f → Goes (change c) t f (change_at c o.side i o f)
-goes_change c i o f t there p s k m =
+pub accepted_change : (c : Amendment) (i : ℕ) (o : Order) (f : MatchState) (t : Tally) → slice_get (at o.side f.queues.stands) i ≡ Some o → ValidChange c o → RoomForStep f →
+    Quiescent f → TallyAgrees t f → AfterAccepted (change c) t f (change_at c o.side i o f)
+accepted_change c i o f t there p s k m =
     let away : Event = requeues o.side i (requeued_order f.session.next_stamp c o) in
     let here : Event = amends i (amended_order c o) in
-    cond_both (loses_turn c o) (run_to_rest (apply away f)) (apply here f) (Goes (change c) t f)
-    (λ l. let fit = fits_requeues c o.side i o f there p k in
-    let room = roomy_begin away f tt fit s in
-    let enough = enough_begin away f tt fit s in
+    cond_both (loses_turn c o) (run_to_rest (apply away f)) (apply here f) (AfterAccepted (change c) t f)
+    (λ l. let fit = may_apply_requeues c o.side i o f there p k in
+    let room = first_has_room away f tt fit s in
+    let enough = rest_has_room_at_first away f tt fit s in
     let consistent = consistent_apply away f fit room k.consistent in
     let t' : Tally = noted (change c) (event_lines away) t in
     record {
       quiescent = quiescent_run_to_rest (apply away f) consistent enough;
-      lines_told = tells_then (change c) t away f (run_to_rest (apply away f)) room (tt, tt)
-          (tells_run_to_rest (change c) t' (apply away f) consistent enough (with_agrees (apply away f) t' (agrees_requeues c i o f p k t m o.side there l room)));
+      lines_tell = lines_tell_then (change c) t away f (run_to_rest (apply away f)) room (tt, tt)
+          (lines_tell_run_to_rest (change c) t' (apply away f) consistent enough (agrees_once_rested (apply away f) t' (tally_agrees_requeues c i o f p k t m o.side there l room)));
       trace = then away (within_room away f room tt) (run_to_rest_trace (apply away f) consistent enough);
     })
-    (λ l. let fit = fits_amends c i o f there p l k in
-    let room : Roomy here f = record { free_lines = omega (arith, s.free_lines); free_stamps = λ z. absurd (omega arith) } in
+    (λ l. let fit = may_apply_amends c i o f there p l k in
+    let room : RoomFor here f = record { free_lines = omega (arith, s.free_lines); free_stamps = λ z. absurd (omega arith) } in
     let t' : Tally = noted (change c) (event_lines here) t in
     record {
       quiescent = record { consistent = consistent_apply here f fit room k.consistent; idle = k.idle; unripe = same_stops f.session.last_price i (amended_order c o) f.queues k.unripe };
-      lines_told = tells_then (change c) t here f (apply here f) room (tt, tt) (tells_here (change c) t' (apply here f) (with_agrees (apply here f) t' (agrees_amends c i o f p k t m there l room)));
+      lines_tell = lines_tell_then (change c) t here f (apply here f) room (tt, tt) (lines_tell_nothing (change c) t' (apply here f) (agrees_once_rested (apply here f) t' (tally_agrees_amends c i o f p k t m there l room)));
       trace = then here (within_room here f room tt) ended;
     })

@@ -3,7 +3,7 @@ use Rattle.venue.specs.Days.{State, state, set_up, at_least_1}
 use Rattle.laws.specs.Tally.{starting}
 use Rattle.laws.specs.Runs.{after}
 use Rattle.laws.proofs.StepByStep.{one_step, no_step}
-use Rattle.laws.proofs.WholeRuns.{always_lawful, always_fair, quiescent_set_up, agrees_set_up}
+use Rattle.laws.proofs.WholeRuns.{always_lawful, always_fair, quiescent_set_up, tally_agrees_set_up}
 use Rattle.laws.proofs.calls.run.Goals as goal
 
 pub loop-form-preserved : goal.loop-form-preserved
@@ -23,7 +23,7 @@ returns g c =
     let s = set_up c.args.day c.args.stamp q n in
     let t = starting (at_least_1 c.args.stamp) in
     let k = quiescent_set_up c.args.day c.args.stamp q n in
-    let m = agrees_set_up c.args.day c.args.stamp q n in
+    let m = tally_agrees_set_up c.args.day c.args.stamp q n in
     record {
       state =
           sym (no_step c.args.forms.now c.loop-form.form-index (state (g.B.Book.queues c.loop-form.book) c.loop-form.tape c.loop-form.current) c.loop-form-test.false)

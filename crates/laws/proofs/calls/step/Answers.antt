@@ -1,6 +1,6 @@
 use Rattle.venue.specs.Days.{state}
 use Rattle.laws.proofs.WholeRuns.{holds_after}
-use Rattle.laws.proofs.OneStepHolds.{smoothly, filled_by}
+use Rattle.laws.proofs.OneStepHolds.{step_within_room, step_filled}
 use Rattle.laws.proofs.calls.step.Goals as goal
 
 pub returns : goal.returns
@@ -10,6 +10,6 @@ returns g c =
       answer = c.step.ensures.answer;
       state = c.step.ensures.state;
       holds_after = holds_after c.args.form s;
-      within_room = smoothly c.args.form s;
-      filled = filled_by c.args.form s;
+      within_room = step_within_room c.args.form s;
+      filled = step_filled c.args.form s;
     }
