@@ -1,5 +1,5 @@
 -- Each event is within room: its lines and stamps are had in full, what it puts is taken, and its orders keep their bounds.
-use Rattle.std.proofs.Common.{◌≡◌, ℕ, zero, suc, ◌-◌, ◌≤◌, Bool, true, false, cond, ltb, Some, None, Option, sym, refl, ap, ◌∙◌, subst, arith, Ok, Err}
+use Rattle.std.proofs.Common.{◌≡◌, ℕ, ◌-◌, ◌≤◌, Bool, true, false, cond, ltb, Some, None, Option, sym, refl, ap, ◌∙◌, subst, arith, Ok, Err}
 use Rattle.std.specs.List.{slice_get}
 use Rattle.std.proofs.lemmas.Bool.{cond_both}
 use Rattle.orders.specs.declared.side.Side.{Side}
@@ -17,12 +17,12 @@ use Rattle.tapes.specs.declared.cause.Cause.TheVariants.{ShortReach, NotPut}
 use Rattle.matching.specs.declared.new_order.OrderType.{OrderType}
 use Rattle.matching.specs.declared.new_order.OrderType.TheVariants.{Limit, Market, StopLimit}
 use Rattle.matching.specs.declared.new_order.NewOrder.{NewOrder}
-use Rattle.matching.specs.Model.{MatchState, Event, accepts, accepts_and_cancels, cancels_incoming, trades, rests, triggers, RestingOutcome, refilled, outcome, trade_lots, apply}
-use Rattle.matching.specs.Running.{next_event, first_order, run_events, weight, run_to_rest}
+use Rattle.matching.specs.Model.{MatchState, Event, accepts, accepts_and_cancels, cancels_incoming, trades, rests, triggers, RestingOutcome, refilled, outcome, trade_lots}
+use Rattle.matching.specs.Running.{first_order, run_to_rest}
 use Rattle.matching.specs.Entering.{entered_order, falls_short, accepts_or_cancels, entered_stop, accepts_stop_or_cancels, market_arrival, arrival_as, arrival}
 use Rattle.matching.proofs.OutcomeCases.{outcome_cases}
 use Rattle.matching.proofs.PartsFall.{reduced_fits, refilled_fits}
-use Rattle.matching.proofs.WeightFalls.{IfRefused, IsNext, is_next, run_events_next, run_events_zero, weight_falls}
+use Rattle.matching.proofs.WeightFalls.{IfRefused, IsNext}
 use Rattle.laws.specs.Tally.{incoming}
 use Rattle.laws.specs.WithinRoom.{outcome_put, PutDone, outcome_in_bounds, EventInBounds, WithinRoom, Trace, ended, then}
 use Rattle.laws.proofs.ConsistentQueues.{ConsistentQueues}
@@ -30,7 +30,7 @@ use Rattle.laws.proofs.SumsOverOrders.{queued, of_incoming, with_number, put_new
 use Rattle.laws.proofs.EventsApply.{MayTrade, NumbersUnique, counts_itself, put_back_done, rest_side}
 use Rattle.laws.proofs.LinesAndStamps.{RoomFor, tape_is, stamp_is}
 use Rattle.laws.proofs.AccountsBalance.{unused_nowhere}
-use Rattle.laws.proofs.RunsToRest.{Consistent, consistent_apply, Quiescent, next_may_run, RoomForRest, next_has_room, rest_has_room}
+use Rattle.laws.proofs.RunsToRest.{Consistent, consistent_apply, Quiescent, next_may_run, RunsTo, at_end, at_next, RoomForRest, run_to_rest_runs}
 
 pub trace-++ : {f g h : MatchState} → Trace f g → Trace g h → Trace f h
 trace-++ ended k = k
@@ -94,22 +94,13 @@ bounds_kept _ f = tt
 pub within_room : (e : Event) (f : MatchState) → RoomFor e f → PutDone e f → WithinRoom e f
 within_room e f r p = record { lines_written = tape_is e f r; stamps_drawn = stamp_is e f r; put_done = p; in_bounds = bounds_kept e f }
 
-run_events_trace : (k : ℕ) (f : MatchState) → Consistent f → RoomForRest f → Trace f (run_events k f)
-run_events_trace zero f s h = subst (Trace f) (sym (run_events_zero f)) ended
-run_events_trace (suc k) f s h = go (next_event f) refl (run_events_trace k)
-  where
-    go : (m : Option Event) → next_event f ≡ m → ((f : MatchState) → Consistent f → RoomForRest f → Trace f (run_events k f)) → Trace f (run_events (suc k) f)
-    go None n ih = subst (Trace f) (sym (run_events_next k f None n)) ended
-    go (Some e) n ih =
-        let i = is_next e f n in
-        let x = next_may_run e f i s.queues in
-        let w = weight_falls e f n in
-        let r = next_has_room e f x.1 w h in
-        subst (Trace f) (sym (run_events_next k f (Some e) n)) (then e (within_room e f r (next_put_done e f i s)) (ih (apply e f) (consistent_apply e f x.0 r s) (rest_has_room e f x.1 w h)))
+-- the events of a run are a trace
+runs_to_trace : {f g : MatchState} → RunsTo f g → Consistent f → Trace f g
+runs_to_trace at_end s = ended
+runs_to_trace (at_next {f} e x r l) s = then e (within_room e f r (next_put_done e f x.1 s)) (runs_to_trace l (consistent_apply e f x.0 r s))
 
 pub run_to_rest_trace : (f : MatchState) → Consistent f → RoomForRest f → Trace f (run_to_rest f)
-unfolding run_to_rest
-run_to_rest_trace f s h = run_events_trace (weight f) f s h
+run_to_rest_trace f s h = runs_to_trace (run_to_rest_runs f s h) s
 
 -- an arrival puts well
 

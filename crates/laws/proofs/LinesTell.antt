@@ -8,7 +8,7 @@ use Rattle.laws.specs.Tally.{Tally, Request, incoming_rested, note, noted}
 use Rattle.laws.specs.Fair.{FairLines}
 use Rattle.laws.specs.WithinRoom.{event_lines}
 use Rattle.laws.proofs.LinesAndStamps.{tape, RoomFor, tape_is}
-use Rattle.laws.proofs.RunsToRest.{Consistent, consistent_apply, MayRun, RunsTo, at_end, then, RoomForRest, run_to_rest_runs}
+use Rattle.laws.proofs.RunsToRest.{Consistent, consistent_apply, MayRun, RunsTo, at_end, at_next, RoomForRest, run_to_rest_runs}
 use Rattle.laws.proofs.TallyAgrees.{TallyAgrees, tally_agrees_trades, tally_agrees_cancels_incoming, tally_agrees_triggers, tally_agrees_rests, tally_agrees_idle}
 use Rattle.laws.proofs.TradesFair.{fair_trades}
 
@@ -69,7 +69,7 @@ lines_tell_nothing q t f w = record { lines = []; tape_grew = refl; fair = tt; a
 
 lines_tell_run : (q : Request) (t : Tally) {f g : MatchState} → RunsTo f g → Consistent f → AgreesOnceRested f.incoming t f → LinesTell q t f g
 lines_tell_run q t (at_end {f}) s w = lines_tell_nothing q t f w
-lines_tell_run q t (then {f} {g} e n r l) s w =
+lines_tell_run q t (at_next {f} {g} e n r l) s w =
     let k = lines_tell_event q e f n r s t w in
     lines_tell_then q t e f g r k.1 (lines_tell_run q (noted q (event_lines e) t) l (consistent_apply e f n.0 r s) k.0)
 

@@ -43,29 +43,22 @@ consistent_apply e f h r s = record {
   turns_below = turns_drawn_apply e f h r s.queues s.accounted.numbers_unique s.turns_below;
 }
 
--- the events that follow by themselves
-abbrev pub RunEvent : Event → Type 0
-RunEvent (cancels_incoming c o) = Unit {0}
-RunEvent (trades o r) = Unit {0}
-RunEvent (rests o) = Unit {0}
-RunEvent (triggers s x) = Unit {0}
-RunEvent _ = ⊥
-
 outcome_draws_one : (k : RestingOutcome) → outcome_stamps k ≤ 1
 outcome_draws_one filled = omega arith
 outcome_draws_one refilled = omega arith
 outcome_draws_one reduced = omega arith
 
--- such an event writes one line at most, and draws one stamp at most
-one_line_each : (e : Event) → RunEvent e → (length (event_lines e) ≤ 1) × (event_stamps e ≤ 1)
-one_line_each (cancels_incoming c o) i = (omega arith, omega arith)
-one_line_each (trades o r) i = (omega arith, outcome_draws_one (outcome (trade_lots o r) r))
-one_line_each (rests o) i = (omega arith, omega arith)
-one_line_each (triggers s x) i = (omega arith, omega arith)
-one_line_each _ i = absurd i
+-- an event that is next writes one line at most, and draws one stamp at most
+one_line_each : (e : Event) (f : MatchState) → IsNext e f → (length (event_lines e) ≤ 1) × (event_stamps e ≤ 1)
+one_line_each (cancels_incoming c o) f i = (omega arith, omega arith)
+one_line_each (trades o r) f i = (omega arith, outcome_draws_one (outcome (trade_lots o r) r))
+one_line_each (rests o) f i = (omega arith, omega arith)
+one_line_each (triggers s x) f i = (omega arith, omega arith)
+one_line_each _ f i = absurd i
 
+-- an event that is next, and may apply
 abbrev pub MayRun : Event → MatchState → Type 0
-MayRun e f = MayApply e f × RunEvent e
+MayRun e f = MayApply e f × IsNext e f
 
 -- a put that is done found room
 pub put_found_place : (e : Record) (q : Queues) → put_answer e q ≡ Ok tt → count (queue_of e) q < capacity (queue_of e) q
@@ -99,34 +92,34 @@ none_within_limit_of o (r ∷ rest) h d w = none_within_limit o.side o.price r r
 
 -- what is next may apply
 pub next_may_run : (e : Event) (f : MatchState) → IsNext e f → ConsistentQueues f.queues → MayRun e f
-next_may_run (cancels_incoming c o) f h g = (h.0, tt)
-next_may_run (trades o r) f h g = (record { is_incoming = h.0; first = first_order_is (opposite o.side) f.queues r h.1; within_its_limit = h.2 }, tt)
+next_may_run (cancels_incoming c o) f h g = (h.0, h)
+next_may_run (trades o r) f h g = (record { is_incoming = h.0; first = first_order_is (opposite o.side) f.queues r h.1; within_its_limit = h.2 }, h)
 next_may_run (rests o) f h g =
     let s : Side = opposite o.side in
-    (record { is_incoming = h.0; none_match = none_within_limit_of o (at s f.queues.stands) (g.sorted s) (g.on_side s) h.2; has_place = put_found_place (Standing o) f.queues h.1 }, tt)
-next_may_run (triggers s x) f h g = ((h.0, first_stop_is s f.queues x h.1), tt)
+    (record { is_incoming = h.0; none_match = none_within_limit_of o (at s f.queues.stands) (g.sorted s) (g.on_side s) h.2; has_place = put_found_place (Standing o) f.queues h.1 }, h)
+next_may_run (triggers s x) f h g = ((h.0, first_stop_is s f.queues x h.1), h)
 next_may_run _ f h g = absurd h
 
 -- from one match state to another by such events, each with room for its line and its stamp
 pub data RunsTo : MatchState → MatchState → Type 0 where
   at_end : {f : MatchState} → RunsTo f f
-  then : {f g : MatchState} (e : Event) → MayRun e f → RoomFor e f → RunsTo (apply e f) g → RunsTo f g
+  at_next : {f g : MatchState} (e : Event) → MayRun e f → RoomFor e f → RunsTo (apply e f) g → RunsTo f g
 
 pub runs_to_consistent : {f g : MatchState} → RunsTo f g → Consistent f → Consistent g
 runs_to_consistent at_end s = s
-runs_to_consistent (then {f} e n r l) s = runs_to_consistent l (consistent_apply e f n.0 r s)
+runs_to_consistent (at_next {f} e n r l) s = runs_to_consistent l (consistent_apply e f n.0 r s)
 
 -- a free line and an undrawn stamp for each of the weight
 pub record RoomForRest (f : MatchState) : Type 0 where
   pub free_lines : length (tape f) + weight f ≤ f.tape.limit
   pub free_stamps : f.session.next_stamp + weight f ≤ 1000000000
 
-pub next_has_room : (e : Event) (f : MatchState) → RunEvent e → suc (weight (apply e f)) ≤ weight f → RoomForRest f → RoomFor e f
-next_has_room e f i w h = let a = one_line_each e i in record { free_lines = omega (arith, h.free_lines, a.0); free_stamps = λ _. omega (arith, h.free_stamps) }
+pub next_has_room : (e : Event) (f : MatchState) → IsNext e f → suc (weight (apply e f)) ≤ weight f → RoomForRest f → RoomFor e f
+next_has_room e f i w h = let a = one_line_each e f i in record { free_lines = omega (arith, h.free_lines, a.0); free_stamps = λ _. omega (arith, h.free_stamps) }
 
-pub rest_has_room : (e : Event) (f : MatchState) → RunEvent e → suc (weight (apply e f)) ≤ weight f → RoomForRest f → RoomForRest (apply e f)
+pub rest_has_room : (e : Event) (f : MatchState) → IsNext e f → suc (weight (apply e f)) ≤ weight f → RoomForRest f → RoomForRest (apply e f)
 rest_has_room e f i w h =
-    let a = one_line_each e i in
+    let a = one_line_each e f i in
     let r = next_has_room e f i w h in
     let d : length (tape (apply e f)) ≡ length (event_lines e) + length (tape f) = ap length (tape_is e f r) ∙ length-append (event_lines e) (tape f) in
     record { free_lines = omega (arith, h.free_lines, a.0, limit_is e f); free_stamps = omega (arith, h.free_stamps, a.1, stamp_is e f r) }
@@ -141,7 +134,7 @@ run_events_runs (suc k) f s h = go (next_event f) refl (run_events_runs k)
         let x = next_may_run e f (is_next e f n) s.queues in
         let w = weight_falls e f n in
         let r = next_has_room e f x.1 w h in
-        subst (RunsTo f) (sym (run_events_next k f (Some e) n)) (then e x r (ih (apply e f) (consistent_apply e f x.0 r s) (rest_has_room e f x.1 w h)))
+        subst (RunsTo f) (sym (run_events_next k f (Some e) n)) (at_next e x r (ih (apply e f) (consistent_apply e f x.0 r s) (rest_has_room e f x.1 w h)))
 
 pub run_to_rest_runs : (f : MatchState) → Consistent f → RoomForRest f → RunsTo f (run_to_rest f)
 unfolding run_to_rest

@@ -20,7 +20,7 @@ use Rattle.tapes.specs.declared.line.Line.{Line}
 use Rattle.matching.specs.Model.{MatchState, Event, cancels_incoming, trades, rests, triggers, filled, refilled, reduced, outcome, trade_lots, apply}
 use Rattle.matching.specs.Running.{total, next_event, next_given, leftover, incoming_event, run_events, incoming_weight, weight, run_to_rest}
 use Rattle.matching.specs.Reach.{own, own_price, counts, counted_open_lots, shown_ahead, reach_by, reach}
-use Rattle.matching.proofs.WeightFalls.{run_events_next, weight_falls}
+use Rattle.matching.proofs.WeightFalls.{IsNext, is_next, run_events_next, weight_falls}
 use Rattle.laws.specs.Accounts.{counting, traded_lots, quantity_of}
 use Rattle.laws.specs.Tally.{stands}
 use Rattle.laws.specs.Reaching.{front_traded}
@@ -32,7 +32,7 @@ use Rattle.laws.proofs.RowsInBounds.{refilled_row}
 use Rattle.laws.proofs.EventsApply.{MayTrade, NumbersUnique, after_outcome, after_trade_trade, rest_side}
 use Rattle.laws.proofs.LinesAndStamps.{tape, tape_is}
 use Rattle.laws.proofs.TurnsBelowStamp.{turn_undrawn, turn_below}
-use Rattle.laws.proofs.RunsToRest.{Consistent, consistent_apply, RunEvent, RunsTo, at_end, then, RoomForRest, next_has_room, rest_has_room, run_events_runs}
+use Rattle.laws.proofs.RunsToRest.{Consistent, consistent_apply, RunsTo, at_end, at_next, RoomForRest, next_has_room, rest_has_room, run_events_runs}
 use Rattle.laws.proofs.ReachFalls.{reach_none_within, reach_own, reach_front_traded}
 
 -- what is written stays written
@@ -43,22 +43,22 @@ total-++ f (x ∷ l) k = let ih = total-++ f l k in omega arith
 
 pub runs_to_more : (g : Line → ℕ) {f h : MatchState} → RunsTo f h → total g (tape f) ≤ total g (tape h)
 runs_to_more g at_end = omega arith
-runs_to_more g (then {f} e n r l) =
+runs_to_more g (at_next {f} e n r l) =
     let ih = runs_to_more g l in
     let a : total g (tape (apply e f)) ≡ total g (event_lines e ++ tape f) = ap (total g) (tape_is e f r) in
     omega (arith, total-++ g (event_lines e) (tape f))
 
--- no event that follows by itself changes a quantity
-same_quantity : (n : ℕ) (e : Event) (l : List Line) → RunEvent e → quantity_of n (event_lines e ++ l) ≡ quantity_of n l
-same_quantity n (cancels_incoming c o) l i = refl
-same_quantity n (trades o r) l i = refl
-same_quantity n (rests o) l i = refl
-same_quantity n (triggers s x) l i = refl
-same_quantity n _ l i = absurd i
+-- no event that is next changes a quantity
+same_quantity : (n : ℕ) (e : Event) (f : MatchState) (l : List Line) → IsNext e f → quantity_of n (event_lines e ++ l) ≡ quantity_of n l
+same_quantity n (cancels_incoming c o) f l i = refl
+same_quantity n (trades o r) f l i = refl
+same_quantity n (rests o) f l i = refl
+same_quantity n (triggers s x) f l i = refl
+same_quantity n _ f l i = absurd i
 
 pub runs_to_quantity : (n : ℕ) {f h : MatchState} → RunsTo f h → quantity_of n (tape h) ≡ quantity_of n (tape f)
 runs_to_quantity n at_end = refl
-runs_to_quantity n (then {f} e x r l) = runs_to_quantity n l ∙ (ap (quantity_of n) (tape_is e f r) ∙ same_quantity n e (tape f) x.1)
+runs_to_quantity n (at_next {f} e x r l) = runs_to_quantity n l ∙ (ap (quantity_of n) (tape_is e f r) ∙ same_quantity n e f (tape f) x.1)
 
 -- reach reads side, limit and investor alone
 
@@ -171,9 +171,9 @@ run_events_trades (suc k) f o s h w m = go (at (opposite o.side) f.queues.stands
             ∙ ap Some (cond-true (within_limit o.side o.price r.price) (cond (same_investor o r) (cancels_incoming OwnInvestor o) (trades o r))
             (leftover o f.queues) a ∙ cond-false (same_investor o r) (cancels_incoming OwnInvestor o) (trades o r) b)) in
             let li = weight_falls ev f nx in
-            let room = next_has_room ev f tt li h in
+            let room = next_has_room ev f (is_next ev f nx) li h in
             let consistent = consistent_apply ev f fit room s in
-            let enough = rest_has_room ev f tt li h in
+            let enough = rest_has_room ev f (is_next ev f nx) li h in
             let f' : MatchState = apply ev f in
             let same : traded_on n (run_events (suc k) f) ≡ traded_on n (run_events k f') = ap (traded_on n) (run_events_next k f (Some ev) nx) in
             let grew : traded_on n f' ≡ (counting n n (trade_lots o r) + counting n r.number (trade_lots o r)) + traded_on n f = ap (total (traded_lots n)) (tape_is ev f room) in
