@@ -2,8 +2,8 @@
 use Rattle.std.proofs.Common.{◌≡◌, min, ap, subst}
 use Rattle.orders.specs.declared.row.OrderRow.{OrderRow}
 use Rattle.matching.specs.Model.{MatchState}
-use Rattle.venue.specs.Days.{State, set_up, at_least_1}
-use Rattle.laws.specs.Tally.{Tally, starting, changed_row}
+use Rattle.venue.specs.Days.{set_up}
+use Rattle.laws.specs.Tally.{changed_row}
 use Rattle.laws.specs.Runs.{after}
 use Rattle.laws.specs.WithinRoom.{state_between_steps, EnteredAsRequested, ChangedAsRequested}
 use Rattle.laws.proofs.RowsInBounds.{entered_row, order_from_row}
@@ -11,7 +11,7 @@ use Rattle.laws.proofs.EntryArrives.{ValidEntry}
 use Rattle.laws.proofs.ChangeApplies.{requeued_row, amended_row}
 use Rattle.laws.proofs.ValidatedRanges.{IfOk, entry_ok}
 use Rattle.laws.proofs.EachForm.{ChangeGiven, change_given}
-use Rattle.laws.proofs.WholeRuns.{quiescent_after, quiescent_set_up, tally_agrees_set_up}
+use Rattle.laws.proofs.WholeRuns.{after_set_up}
 use Rattle.orders.specs.declared.order.Order.{Order}
 use Rattle.orders.specs.Rows.{row_of}
 use Rattle.orders.specs.Lots.{showing}
@@ -30,11 +30,9 @@ entered_as_requested form a e price stamp =
 
 pub changed_as_requested : ChangedAsRequested
 changed_as_requested day stamp q limit forms form p e =
-    let z : State = set_up day stamp q limit in
-    let t : Tally = starting (at_least_1 stamp) in
-    let f : MatchState = state_between_steps (after forms z) in
-    let h = quiescent_after forms z t (quiescent_set_up day stamp q limit) (tally_agrees_set_up day stamp q limit) in
-    let g : ChangeGiven form f p = subst (IfOk (ChangeGiven form f)) e (change_given form f h.0.consistent.queues) in
+    let f : MatchState = state_between_steps (after forms (set_up day stamp q limit)) in
+    let quiescent = (after_set_up day stamp q limit forms).0 in
+    let g : ChangeGiven form f p = subst (IfOk (ChangeGiven form f)) e (change_given form f quiescent.consistent.queues) in
     let c : Amendment = p.change in
     let o : Order = p.order in (
       λ turn. same_lots (requeued_order turn c o) (changed_row c turn (showing (new_disclosed c o) (new_open_lots c o)) (row_of o)) (requeued_row turn c o g.0),

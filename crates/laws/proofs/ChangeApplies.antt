@@ -12,6 +12,7 @@ use Rattle.books.specs.Model.{at}
 use Rattle.matching.specs.declared.amendment.Amendment.{Amendment}
 use Rattle.matching.specs.Model.{MatchState, Event, amends, requeues, apply}
 use Rattle.matching.specs.Changing.{new_price, new_quantity, new_disclosed, new_open_lots, lots_traded, loses_turn, amended_order, requeued_order}
+use Rattle.matching.specs.Running.{total}
 use Rattle.laws.specs.Tally.{stands, incoming, Account, Tally, account, only, numbered, changed_row, costs_turn, after_change, note_change, change}
 use Rattle.laws.proofs.ConsistentQueues.{InPriceRange, price_same}
 use Rattle.laws.proofs.SumsOverOrders.{Measure, of_incoming, with_number}
@@ -93,6 +94,19 @@ may_apply_amends c i o f e p l k =
     (record { idle = k.idle; was = o; there = e; changes = changes_amended c o p l }, record { side = refl; price = (keeps_turn c o l).price; turn = refl; number = refl })
 
 module _ (c : Amendment) (i : ℕ) (o : Order) (f : MatchState) (p : ValidChange c o) (k : Quiescent f) (t : Tally) (m : TallyAgrees t f) where
+  -- the turns that the tally counts for a change
+  turns_noted : (ev : Event) → MayApply ev f → ((g : Measure) → measure_out ev f g ≡ g stands o) →
+      total (λ a. cond (eqb a.order.number o.number) (cond (costs_turn c a.order) 1 0) 0) t.accounts ≡ cond (loses_turn c o) 1 0
+  turns_noted ev fit is =
+      let w : RowMeasure = λ q x. cond (costs_turn c x) 1 0 in
+      omega (
+        arith,
+        m.sums (λ q x. cond (eqb x.number o.number) (w q x) 0),
+        one_only ev f fit k.consistent o.number (omega (arith, is (with_number o.number), counts_itself stands o)) t m (of_tally_row w),
+        is (λ q x. cond (eqb x.number o.number) (of_tally_row w q x) 0),
+        cond-true (eqb o.number o.number) (w stands (row_of o)) 0 (eq-eqb o.number o.number refl),
+      )
+
   pub tally_agrees_amends : (e : slice_get (at o.side f.queues.stands) i ≡ Some o) (l : loses_turn c o ≡ false) → RoomFor (amends i (amended_order c o)) f →
       TallyAgrees (note_change (change c) o.number t) (apply (amends i (amended_order c o)) f)
   tally_agrees_amends e l room =
@@ -102,7 +116,6 @@ module _ (c : Amendment) (i : ℕ) (o : Order) (f : MatchState) (p : ValidChange
       let is : (g : Measure) → measure_out ev f g ≡ g stands o = λ g. ap (of_incoming (g stands)) e in
       let one : 1 ≤ measure_out ev f (with_number o.number) = omega (arith, is (with_number o.number), counts_itself stands o) in
       let h : Account → Option Account = λ a. Some (after_change c t.turn a) in
-      let w : RowMeasure = λ q x. cond (costs_turn c x) 1 0 in
       record {
         sums = one_adjusted ev f fit k.consistent o.number one t m h
             (λ g. is (adjusted_measure (λ a. only (numbered o.number a) (h a) a) g)
@@ -110,16 +123,7 @@ module _ (c : Amendment) (i : ℕ) (o : Order) (f : MatchState) (p : ValidChange
             ∙ (ap (on_account g) (cond-false (loses_turn c o) (account incoming (changed_row c t.turn 0 (row_of o)))
             (account stands (changed_row c o.turn (min o.shown (new_open_lots c o)) (row_of o))) l)
             ∙ sym (ap (g stands) (amended_row c o p l)))));
-        turns = omega (
-          arith,
-          m.turns,
-          stamp_is ev f room,
-          m.sums (λ q x. cond (eqb x.number o.number) (w q x) 0),
-          one_only ev f fit k.consistent o.number one t m (of_tally_row w),
-          is (λ q x. cond (eqb x.number o.number) (of_tally_row w q x) 0),
-          cond-true (eqb o.number o.number) (w stands (row_of o)) 0 (eq-eqb o.number o.number refl),
-          cond-false {A = ℕ} (loses_turn c o) 1 0 l,
-        );
+        turns = omega (arith, m.turns, stamp_is ev f room, turns_noted ev fit is, cond-false {A = ℕ} (loses_turn c o) 1 0 l);
       }
 
   pub tally_agrees_requeues : (s : Side) (e : slice_get (at s f.queues.stands) i ≡ Some o) (l : loses_turn c o ≡ true) →
@@ -132,7 +136,6 @@ module _ (c : Amendment) (i : ℕ) (o : Order) (f : MatchState) (p : ValidChange
       let is : (g : Measure) → measure_out ev f g ≡ g stands o = λ g. ap (of_incoming (g stands)) e in
       let one : 1 ≤ measure_out ev f (with_number o.number) = omega (arith, is (with_number o.number), counts_itself stands o) in
       let h : Account → Option Account = λ a. Some (after_change c t.turn a) in
-      let w : RowMeasure = λ q x. cond (costs_turn c x) 1 0 in
       record {
         sums = one_adjusted ev f fit k.consistent o.number one t m h
             (λ g. is (adjusted_measure (λ a. only (numbered o.number a) (h a) a) g)
@@ -141,14 +144,5 @@ module _ (c : Amendment) (i : ℕ) (o : Order) (f : MatchState) (p : ValidChange
             (account stands (changed_row c o.turn (min o.shown (new_open_lots c o)) (row_of o))) l)
             ∙ (ap (λ n. g incoming (changed_row c n 0 (row_of o))) m.turns
             ∙ sym (ap (λ r. g incoming (as_tally_row incoming r)) (requeued_row f.session.next_stamp c o p))))));
-        turns = omega (
-          arith,
-          m.turns,
-          stamp_is ev f room,
-          m.sums (λ q x. cond (eqb x.number o.number) (w q x) 0),
-          one_only ev f fit k.consistent o.number one t m (of_tally_row w),
-          is (λ q x. cond (eqb x.number o.number) (of_tally_row w q x) 0),
-          cond-true (eqb o.number o.number) (w stands (row_of o)) 0 (eq-eqb o.number o.number refl),
-          cond-true {A = ℕ} (loses_turn c o) 1 0 l,
-        );
+        turns = omega (arith, m.turns, stamp_is ev f room, turns_noted ev fit is, cond-true {A = ℕ} (loses_turn c o) 1 0 l);
       }

@@ -29,9 +29,8 @@ use Rattle.validation.specs.Entries.{wrong_blank, typed_entry, if_allowed, valid
 use Rattle.venue.specs.declared.day.Day.{Day}
 use Rattle.venue.specs.declared.day.Day.TheVariants.{Open, Closed}
 use Rattle.venue.specs.Steps.{answered, after_answer, entry_answer}
-use Rattle.venue.specs.Days.{State, between_steps, set_up, at_least_1, answer_on, step_on}
+use Rattle.venue.specs.Days.{State, between_steps, set_up, answer_on, step_on}
 use Rattle.laws.specs.Accounts.{quantity_of, traded_lots, cancelled_lots}
-use Rattle.laws.specs.Tally.{Tally, starting}
 use Rattle.laws.specs.Runs.{session_of, after}
 use Rattle.laws.specs.WithinRoom.{state_between_steps, event_lines}
 use Rattle.laws.specs.Reaching.{ReachMeans, Filled, AlwaysFilled}
@@ -43,7 +42,7 @@ use Rattle.laws.proofs.EntryArrives.{ValidEntry, may_apply_arrival}
 use Rattle.laws.proofs.RoomSuffices.{RoomForStep, BeginsStep, first_has_room, rest_has_room_at_first, begins_arrival}
 use Rattle.laws.proofs.ValidatedRanges.{IfOk, ok_then, any_ok}
 use Rattle.laws.proofs.EachForm.{EntryGiven, entry_given}
-use Rattle.laws.proofs.WholeRuns.{quiescent_after, quiescent_set_up, tally_agrees_set_up}
+use Rattle.laws.proofs.WholeRuns.{after_set_up}
 use Rattle.laws.proofs.ReachFalls.{reach_is_unlimited_trade}
 use Rattle.laws.proofs.TradesReach.{runs_to_more, runs_to_quantity, standing_turns_drawn, traded_on, run_to_rest_trades}
 
@@ -192,17 +191,13 @@ filled_on (Closed o) form q r a c u e k = absurd (never (validate_entry form) k)
 
 pub always_filled : AlwaysFilled
 always_filled day stamp q limit forms form a e k =
-    let z : State = set_up day stamp q limit in
-    let t : Tally = starting (at_least_1 stamp) in
-    let s : State = after forms z in
-    let h = quiescent_after forms z t (quiescent_set_up day stamp q limit) (tally_agrees_set_up day stamp q limit) in
-    filled_on s.day form s.queues s.tape a h.0 (subst (IfOk NotBarred) e (entry_not_barred form)) e k
+    let s : State = after forms (set_up day stamp q limit) in
+    let c = (after_set_up day stamp q limit forms).0 in
+    filled_on s.day form s.queues s.tape a c (subst (IfOk NotBarred) e (entry_not_barred form)) e k
 
 pub reach_means : ReachMeans
 reach_means day stamp q limit forms o trades m =
-    let z : State = set_up day stamp q limit in
-    let t : Tally = starting (at_least_1 stamp) in
-    let f : MatchState = state_between_steps (after forms z) in
-    let h = quiescent_after forms z t (quiescent_set_up day stamp q limit) (tally_agrees_set_up day stamp q limit) in
+    let f : MatchState = state_between_steps (after forms (set_up day stamp q limit)) in
+    let c = (after_set_up day stamp q limit forms).0 in
     let y = opposite o.side in
-    reach_is_unlimited_trade trades f.session.next_stamp o (at (opposite o.side) f.queues.stands) (h.0.consistent.queues.sorted y) (h.0.consistent.queues.on_side y) (standing_turns_drawn y f h.0.consistent.turns_below) m
+    reach_is_unlimited_trade trades f.session.next_stamp o (at (opposite o.side) f.queues.stands) (c.consistent.queues.sorted y) (c.consistent.queues.on_side y) (standing_turns_drawn y f c.consistent.turns_below) m

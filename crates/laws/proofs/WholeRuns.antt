@@ -132,12 +132,18 @@ pub quiescent_after : (forms : List Form) (s : State) (t : Tally) → Quiescent 
 quiescent_after [] s t c m = (c, m)
 quiescent_after (form ∷ forms) s t c m = quiescent_after forms (step form s) (tallied form s t) (after_step form s t c m).quiescent (matches_step form s t c m)
 
+pub after_set_up : (day stamp : ℕ) (q : Queues) (limit : ℕ) (forms : List Form) →
+    Quiescent (state_between_steps (after forms (set_up day stamp q limit)))
+    × TallyAgrees (tally_after forms (set_up day stamp q limit) (starting (at_least_1 stamp))) (state_between_steps (after forms (set_up day stamp q limit)))
+after_set_up day stamp q limit forms =
+    quiescent_after forms (set_up day stamp q limit) (starting (at_least_1 stamp)) (quiescent_set_up day stamp q limit) (tally_agrees_set_up day stamp q limit)
+
 pub holds_after : (form : Form) (s : State) → HoldsAfter form s
 holds_after form s day stamp q limit forms e =
     let z : State = set_up day stamp q limit in
     let t : Tally = starting (at_least_1 stamp) in
     subst (λ (s : State). Lawful (step form s) × FairLines (request form) (step_lines s (step form s)) (tally_after forms z t)) (sym e)
-    (next (after forms z) (tally_after forms z t) (quiescent_after forms z t (quiescent_set_up day stamp q limit) (tally_agrees_set_up day stamp q limit)))
+    (next (after forms z) (tally_after forms z t) (after_set_up day stamp q limit forms))
   where
     next : (s : State) (t : Tally) → Quiescent (state_between_steps s) × TallyAgrees t (state_between_steps s) → Lawful (step form s) × FairLines (request form) (step_lines s (step form s)) t
     next s t h = let k = after_step form s t h.0 h.1 in
@@ -146,6 +152,5 @@ holds_after form s day stamp q limit forms e =
 pub always_within_room : AlwaysWithinRoom
 always_within_room day stamp q limit forms form =
     let z : State = set_up day stamp q limit in
-    let t : Tally = starting (at_least_1 stamp) in
-    let h = quiescent_after forms z t (quiescent_set_up day stamp q limit) (tally_agrees_set_up day stamp q limit) in
-    (after_step form (after forms z) (tally_after forms z t) h.0 h.1).trace
+    let h = after_set_up day stamp q limit forms in
+    (after_step form (after forms z) (tally_after forms z (starting (at_least_1 stamp))) h.0 h.1).trace
