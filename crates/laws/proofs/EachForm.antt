@@ -23,7 +23,6 @@ use Rattle.forms.specs.declared.refusal.Refusal.{Refusal}
 use Rattle.forms.specs.declared.refusal.Refusal.TheVariants.{TapeFull, NoStamps, UnknownOrder, QuantityTraded, DisclosedBarred}
 use Rattle.matching.specs.declared.new_order.NewOrder.{NewOrder}
 use Rattle.matching.specs.declared.amendment.Amendment.{Amendment}
-use Rattle.matching.specs.declared.removal.CancelFilter.{CancelFilter}
 use Rattle.matching.specs.declared.removal.Removal.TheVariants.{Matching, DayOrders}
 use Rattle.matching.specs.Sessions.{undrawn_stamps}
 use Rattle.matching.specs.Model.{MatchState}
@@ -83,6 +82,12 @@ after_step_accepted form t f g h = record {
   trace = h.trace;
 }
 
+-- a step whose checks gave what it needs
+after_step_of : {A : Type 0} (form : Form) (f : MatchState) (t : Tally) (P : A → Type 0) (act : A → MatchState → MatchState) (r : Result A Refusal) → Quiescent f → TallyAgrees t f →
+    IfOk P r → ((x : A) → P x → AfterAccepted (request form) t f (act x f)) → AfterStep form t f (answered r) (after_answer act r f)
+after_step_of form f t P act (Ok x) c m h accepted = after_step_accepted form t f (act x f) (accepted x h)
+after_step_of form f t P act (Err e) c m h accepted = after_step_unchanged form t f (Err e) c m
+
 -- what each check gives
 
 pub ok_is : {A : Type 0} (P : A → Type 0) (r : Result A Refusal) → IfOk P r → IfOk (λ x. P x × (r ≡ Ok x)) r
@@ -126,11 +131,9 @@ entry_given form f =
 
 pub after_step_entry : (form : EntryForm) (f : MatchState) (t : Tally) → Quiescent f → TallyAgrees t f →
     AfterStep (Entry form) t f (answered (entry_answer form f)) (after_answer enter (entry_answer form f) f)
-after_step_entry form f t c m = go (entry_answer form f) (entry_given form f)
-  where
-    go : (r : Result NewOrder Refusal) → IfOk (EntryGiven form f) r → AfterStep (Entry form) t f (answered r) (after_answer enter r f)
-    go (Ok a) h = after_step_accepted (Entry form) t f (enter a f) (subst (λ (q : Request). AfterAccepted q t f (enter a f)) (sym (ap entry_requested h.2)) (accepted_entry a f t h.0 h.1 c m))
-    go (Err e) h = after_step_unchanged (Entry form) t f (Err e) c m
+after_step_entry form f t c m =
+    after_step_of (Entry form) f t (EntryGiven form f) enter (entry_answer form f) c m (entry_given form f)
+    (λ a h. subst (λ (q : Request). AfterAccepted q t f (enter a f)) (sym (ap entry_requested h.2)) (accepted_entry a f t h.0 h.1 c m))
 
 -- change
 
@@ -197,13 +200,9 @@ change_given form f g =
 
 pub after_step_change : (form : ChangeForm) (f : MatchState) (t : Tally) → Quiescent f → TallyAgrees t f →
     AfterStep (ChangeStep form) t f (answered (change_answer form f)) (after_answer carry_out_plan (change_answer form f) f)
-after_step_change form f t c m = go (change_answer form f) (change_given form f c.consistent.queues)
-  where
-    go : (r : Result AmendPlan Refusal) → IfOk (ChangeGiven form f) r → AfterStep (ChangeStep form) t f (answered r) (after_answer carry_out_plan r f)
-    go (Ok p) h =
-        after_step_accepted (ChangeStep form) t f (carry_out_plan p f)
-        (subst (λ (q : Request). AfterAccepted q t f (carry_out_plan p f)) (sym h.3) (accepted_change p.change p.at p.order f t h.2 h.0 h.1 c m))
-    go (Err e) h = after_step_unchanged (ChangeStep form) t f (Err e) c m
+after_step_change form f t c m =
+    after_step_of (ChangeStep form) f t (ChangeGiven form f) carry_out_plan (change_answer form f) c m (change_given form f c.consistent.queues)
+    (λ p h. subst (λ (q : Request). AfterAccepted q t f (carry_out_plan p f)) (sym h.3) (accepted_change p.change p.at p.order f t h.2 h.0 h.1 c m))
 
 -- removals
 
@@ -222,13 +221,10 @@ cancel_given form f =
 
 pub after_step_cancel : (form : CancelForm) (f : MatchState) (t : Tally) → Quiescent f → TallyAgrees t f →
     AfterStep (Cancel form) t f (answered (cancel_answer form f.queues f.tape)) (after_answer cancel_found (cancel_answer form f.queues f.tape) f)
-after_step_cancel form f t c m = go (cancel_answer form f.queues f.tape) (cancel_given form f)
-  where
-    go : (r : Result Found Refusal) → IfOk (λ x. RoomForRemovals f × FoundAt f.queues x) r → AfterStep (Cancel form) t f (answered r) (after_answer cancel_found r f)
-    go (Ok x) h =
-        after_step_accepted (Cancel form) t f (cancel_found x f)
-        (accepted_removals removal t f (cancel_found x f) (after_one_removal removal WasRequested x.queue x.at x.«record» f t (found_record_at x.queue x.at x.«record» f.queues h.1) c h.0 m))
-    go (Err e) h = after_step_unchanged (Cancel form) t f (Err e) c m
+after_step_cancel form f t c m =
+    after_step_of (Cancel form) f t (λ x. RoomForRemovals f × FoundAt f.queues x) cancel_found (cancel_answer form f.queues f.tape) c m (cancel_given form f)
+    (λ x h. accepted_removals removal t f (cancel_found x f)
+    (after_one_removal removal WasRequested x.queue x.at x.«record» f t (found_record_at x.queue x.at x.«record» f.queues h.1) c h.0 m))
 
 mass_given : (form : MassCancelForm) (f : MatchState) → IfOk (λ _. RoomForRemovals f) (mass_cancel_answer form f.queues f.tape)
 mass_given form f =
@@ -237,11 +233,9 @@ mass_given form f =
 
 pub after_step_mass_cancel : (form : MassCancelForm) (f : MatchState) (t : Tally) → Quiescent f → TallyAgrees t f →
     AfterStep (MassCancel form) t f (answered (mass_cancel_answer form f.queues f.tape)) (after_answer cancel_matching (mass_cancel_answer form f.queues f.tape) f)
-after_step_mass_cancel form f t c m = go (mass_cancel_answer form f.queues f.tape) (mass_given form f)
-  where
-    go : (r : Result CancelFilter Refusal) → IfOk (λ _. RoomForRemovals f) r → AfterStep (MassCancel form) t f (answered r) (after_answer cancel_matching r f)
-    go (Ok w) h = after_step_accepted (MassCancel form) t f (cancel_matching w f) (accepted_removals removal t f (cancel_matching w f) (after_removals removal (Matching w) WasRequested f t c h m))
-    go (Err e) h = after_step_unchanged (MassCancel form) t f (Err e) c m
+after_step_mass_cancel form f t c m =
+    after_step_of (MassCancel form) f t (λ _. RoomForRemovals f) cancel_matching (mass_cancel_answer form f.queues f.tape) c m (mass_given form f)
+    (λ w h. accepted_removals removal t f (cancel_matching w f) (after_removals removal (Matching w) WasRequested f t c h m))
 
 pub after_step_day_orders : (f : MatchState) (t : Tally) → RoomForRemovals f → Quiescent f → TallyAgrees t f → AfterStep Closing t f (Ok tt) (cancel_day_orders f)
 after_step_day_orders f t s c m = after_step_accepted Closing t f (cancel_day_orders f) (accepted_removals removal t f (cancel_day_orders f) (after_removals removal DayOrders DayClosed f t c s m))

@@ -1,5 +1,5 @@
 -- An entry: its arrival fits, and the tally notes it.
-use Rattle.std.proofs.Common.{◌≡◌, ℕ, ◌+◌, ◌-◌, eqb, List, [], ◌∷◌, Some, None, Option, unwrap_or, sym, refl, ap, ◌∙◌, subst, arith, Ok, Err}
+use Rattle.std.proofs.Common.{◌≡◌, ℕ, ◌+◌, ◌-◌, ◌≤◌, false, ◌&&◌, ◌||◌, ltb, eqb, List, [], ◌∷◌, Some, None, Option, unwrap_or, sym, refl, ap, ◌∙◌, subst, arith, Ok, Err}
 use Rattle.std.specs.List.{AllByRecursion, slice_get}
 use Rattle.std.specs.Option.{option_map}
 use Rattle.std.proofs.lemmas.Bool.{cond_both, cond-true, eq-eqb}
@@ -8,7 +8,7 @@ use Rattle.orders.specs.declared.price.Price.{Price}
 use Rattle.orders.specs.declared.order.Order.{Order}
 use Rattle.orders.specs.declared.order.Stop.{Stop}
 use Rattle.orders.specs.declared.row.OrderRow.{OrderRow}
-use Rattle.orders.specs.Sides.{opposite}
+use Rattle.orders.specs.Sides.{opposite, is_immediate}
 use Rattle.books.specs.declared.queue.Record.TheVariants.{Standing, Waiting}
 use Rattle.books.specs.declared.queue.PutError.TheVariants.{Full, Twice}
 use Rattle.books.specs.Model.{Queues, at, standing_order, put_answer, PutAnswer}
@@ -20,6 +20,7 @@ use Rattle.matching.specs.declared.new_order.NewOrder.{NewOrder}
 use Rattle.matching.specs.Model.{MatchState, Event, accepts, accepts_stop, accepts_and_cancels, accepts_unmatched, apply}
 use Rattle.matching.specs.Running.{total, first_order}
 use Rattle.matching.specs.Entering.{entered_order, falls_short, accepts_or_cancels, entered_stop, accepts_stop_or_cancels, market_arrival, arrival_as, arrival}
+use Rattle.validation.specs.Combinations.{is_stop}
 use Rattle.laws.specs.Tally.{Status, waits, incoming, Account, Tally, Request, entry, account, adjust, only, numbered, take_off, refilled_if, shown_ran_out, lots_off, price_of_none, limit_as, status_as, entered_account_row, noted}
 use Rattle.laws.specs.Fair.{FairLines}
 use Rattle.laws.proofs.ConsistentQueues.{InPriceRange, OnSide}
@@ -42,6 +43,8 @@ PricesInRange (StopLimit limit trigger) = InPriceRange limit × InPriceRange tri
 pub record ValidEntry (a : NewOrder) : Type 0 where
   pub allowed : QuantityAllowed a.quantity a.disclosed
   pub price_in_range : PricesInRange a.order_type
+  pub stop : (is_stop a.order_type && (is_immediate a.validity || ltb 0 a.minimum)) ≡ false
+  pub least : a.minimum ≤ a.quantity
 
 enters : (a : NewOrder) (price : Price) (f : MatchState) → ValidEntry a → InPriceRange price → f.incoming ≡ None → MayEnter (entered_order a price f.session.next_stamp) f
 enters a price f p l h = record { idle = h; new = refl; turn = refl; whole = refl; price_in_range = l; shows_in_full = entered_shows a price f.session.next_stamp p.allowed }

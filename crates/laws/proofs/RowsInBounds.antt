@@ -9,6 +9,7 @@ use Rattle.orders.specs.Lots.{showing, with_lots, order_reduced, order_refilled}
 use Rattle.orders.proofs.RowRoundTrip.{in_bounds_from}
 use Rattle.matching.specs.declared.new_order.NewOrder.{NewOrder}
 use Rattle.matching.specs.Entering.{entered_order}
+use Rattle.laws.specs.Tally.{entered_account_row}
 use Rattle.matching.proofs.PartsFall.{reduced_fits, refilled_fits, showing_0, showing_1, showing_some}
 
 -- a row within the bounds reads back
@@ -42,22 +43,9 @@ shown_in_full_in_bounds r e h q a =
       hidden_within_parts = λ z. omega (arith, showing_1 r.disclosed r.open_lots z, a.parts z);
     }
 
+-- the row of an entered order, which shows at once
 abbrev pub entered_row : NewOrder → Price → ℕ → OrderRow
-entered_row a price stamp = record {
-  number = stamp;
-  turn = stamp;
-  firm = a.firm;
-  client = a.client;
-  side = a.side;
-  price = price;
-  quantity = a.quantity;
-  open_lots = a.quantity;
-  shown = showing a.disclosed a.quantity;
-  disclosed = a.disclosed;
-  validity = a.validity;
-  investor = a.investor;
-  tag = a.tag;
-}
+entered_row a price stamp = record (entered_account_row a price stamp stamp) { shown = showing a.disclosed a.quantity }
 
 pub order_from_row : (a : NewOrder) (price : Price) (stamp : ℕ) → QuantityAllowed a.quantity a.disclosed → row_of (entered_order a price stamp) ≡ entered_row a price stamp
 order_from_row a price stamp h = reads_back (entered_row a price stamp) (shown_in_full_in_bounds (entered_row a price stamp) refl h.some (omega arith) h)

@@ -142,6 +142,10 @@ module _ (q : Queues) (m : Option Order) where
       at_incoming None z = refl
       at_incoming (Some o) z = k incoming o z
 
+-- a measure that is nothing everywhere
+pub over_nothing : (q : Queues) → over (λ _ _. 0) q None ≡ 0
+over_nothing q = omega (arith, total_none q.stands.buy, total_none q.stands.sell, total_none q.waits.buy, total_none q.waits.sell)
+
 -- how many orders have a number
 abbrev pub with_number : ℕ → Measure
 with_number n p o = counting n o.number 1

@@ -14,7 +14,7 @@ use Rattle.matching.specs.Model.{MatchState, Event, cancels_incoming, trades, re
 use Rattle.matching.specs.Running.{total}
 use Rattle.matching.proofs.OutcomeCases.{outcome_cases, incoming_left_cases}
 use Rattle.laws.specs.Tally.{Status, stands, waits, incoming, Account, Tally, account, account_if, adjust, only, numbered, row_with, lots_off, shown_ran_out, refilled_if, take_off, rested, incoming_rested, triggered_account, note_trigger, note_trade, note_cancel}
-use Rattle.laws.proofs.SumsOverOrders.{Measure, of_incoming, over, everywhere, over_plus, over_agree, with_number, total_none}
+use Rattle.laws.proofs.SumsOverOrders.{Measure, of_incoming, over, everywhere, over_plus, over_agree, with_number, over_nothing}
 use Rattle.laws.proofs.RowsInBounds.{ShowsInFull, refilled_row, reduced_row}
 use Rattle.laws.proofs.EventsApply.{MayApply, of_outcome, measure_out, measure_in, untouched_queues, measure_untouched, before_event, after_event, counts_itself, IncomingReady, status}
 use Rattle.laws.specs.WithinRoom.{outcome_stamps}
@@ -151,9 +151,9 @@ module _ (o r : Order) (f : MatchState) (fit : MayApply (trades o r) f) (s : Con
       let e : Event = trades o r in
       let g : Measure = λ p x. cond (eqb x.number o.number || eqb x.number r.number) (w p x) 0 in
       let q : Queues = untouched_queues e f in
-      let z : over (λ _ _. 0) q None ≡ 0 = omega (arith, total_none q.stands.buy, total_none q.stands.sell, total_none q.waits.buy, total_none q.waits.sell) in
       omega (
         arith,
+        over_nothing q,
         before_event g e f fit,
         cond-true (eqb o.number o.number || eqb o.number r.number) (w incoming o) 0 incoming_named,
         cond-true (eqb r.number o.number || eqb r.number r.number) (w stands r) 0 resting_named,
@@ -211,9 +211,9 @@ module _ (e : Event) (f : MatchState) (fit : MayApply e f) (s : Consistent f) (n
   one_only w =
       let g : Measure = λ p x. cond (eqb x.number n) (w p x) 0 in
       let q : Queues = untouched_queues e f in
-      let z : over (λ _ _. 0) q None ≡ 0 = omega (arith, total_none q.stands.buy, total_none q.stands.sell, total_none q.waits.buy, total_none q.waits.sell) in
       omega (
         arith,
+        over_nothing q,
         before_event g e f fit,
         over_agree q None (with_number n) g (λ _ _. 0)
             (λ p x k. cond-false (eqb x.number n) (w p x) 0 (counts_nothing (eqb x.number n) k)) (rest_other e f fit s.accounted n one),
@@ -258,9 +258,6 @@ abbrev incoming_only : Measure
 incoming_only incoming o = 1
 incoming_only _ o = 0
 
-none_incoming_only : (q : Queues) → over incoming_only q None ≡ 0
-none_incoming_only q = omega (arith, total_none q.stands.buy, total_none q.stands.sell, total_none q.waits.buy, total_none q.waits.sell)
-
 others_stay : (p : Status) (o : Order) → incoming_only p o ≡ 0 → rested_account (account p (tally_row p o)) ≡ Some (account p (tally_row p o))
 others_stay incoming o z = absurd (omega arith)
 others_stay _ o z = refl
@@ -269,7 +266,7 @@ pub tally_agrees_rests : (o : Order) (f : MatchState) → MayApply (rests o) f �
 tally_agrees_rests o f fit s t m =
     let shows_in_full : ShowsInFull o = (subst IncomingReady fit.is_incoming s.incoming_ready).1 in
     record {
-      sums = sums_adjusted incoming_only rested_account (rests o) f t.accounts fit s (none_incoming_only f.queues) others_stay (λ g. ap (λ n. g stands (row_with o.turn o.open_lots n (row_of o))) (sym shows_in_full)) m.sums;
+      sums = sums_adjusted incoming_only rested_account (rests o) f t.accounts fit s (over_nothing f.queues) others_stay (λ g. ap (λ n. g stands (row_with o.turn o.open_lots n (row_of o))) (sym shows_in_full)) m.sums;
       turns = m.turns;
     }
 
@@ -280,7 +277,7 @@ tally_agrees_idle f t e m = record {
     total_adjust g rested_account t.accounts,
     m.sums (λ p r. on_account_if g (rested_account (account p r))),
     over_agree f.queues f.incoming incoming_only (adjusted_measure rested_account g) (of_tally_row g) (λ p o z. ap (on_account_if g) (others_stay p o z))
-        (subst (λ h. over incoming_only f.queues h ≡ 0) (sym e) (none_incoming_only f.queues)),
+        (subst (λ h. over incoming_only f.queues h ≡ 0) (sym e) (over_nothing f.queues)),
   );
   turns = m.turns;
 }

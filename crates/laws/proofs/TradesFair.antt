@@ -40,40 +40,29 @@ past_limit price x = cond (within_limit x.side x.price price) 0 1
 later_key : (a b : Rank) → b.key < a.key → ranks_ahead a b ≡ false
 later_key a b h = grind (arith, nat_tests)
 
--- an incoming order, against whoever is priced further from the other side than the order that it meets
-behind_key : (s : Side) (x o r : Price) → InPriceRange o → within_limit s o r ≡ true → (s ≡ Buy → level x < level r) → (s ≡ Sell → level r < level x) → order_key s o < order_key s x
-behind_key Buy x o r l w b c = let k = leb-true (level r) (level o) w in omega (arith, b refl)
-behind_key Sell x o r l w b c = let k = leb-true (level o) (level r) w in omega (arith, c refl)
+-- the first price is further from the other side than the second
+abbrev Further : Side → Price → Price → Type 0
+Further Buy p q = level p < level q
+Further Sell p q = level q < level p
+
+-- an incoming order ranks ahead of an order of its side that is priced further from the other side than the order that it meets
+further_key : (s : Side) (x o r : Price) → InPriceRange o → within_limit s o r ≡ true → Further s x r → order_key s o < order_key s x
+further_key Buy x o r l w b = let k = leb-true (level r) (level o) w in omega arith
+further_key Sell x o r l w b = let k = leb-true (level o) (level r) w in omega arith
+
+further_behind : (s : Side) (o r : Order) (k : List Order) → o.side ≡ s → InPriceRange o.price → within_limit s o.price r.price ≡ true → AllByRecursion (OnSide s) k →
+    AllByRecursion (λ (x : Order). Further s x.price r.price) k → AllByRecursion (λ (x : Order). ranks_ahead (rank_of x) (rank_of o) ≡ false) k
+further_behind s o r [] e l w d h = tt
+further_behind s o r (x ∷ k) e l w d h = (
+  later_key (rank_of x) (rank_of o) (subst (λ (z : Side). order_key o.side o.price < order_key z x.price) (sym d.0.0)
+      (subst (λ (z : Side). order_key z o.price < order_key s x.price) (sym e) (further_key s x.price o.price r.price l w h.0))),
+  further_behind s o r k e l w d.1 h.1,
+)
 
 all_behind : (s : Side) (o r : Order) (b : Both (List Order)) → o.side ≡ s → InPriceRange o.price → within_limit s o.price r.price ≡ true → AllByRecursion (OnSide s) (at s b) →
     CrossesNone (opposite s) b r → AllByRecursion (λ (x : Order). ranks_ahead (rank_of x) (rank_of o) ≡ false) (at s b)
-all_behind Buy o r b e l w d c = go b.buy d c
-  where
-    go : (k : List Order) → AllByRecursion (OnSide Buy) k → AllByRecursion (λ (x : Order). level x.price < level r.price) k → AllByRecursion (λ (x : Order). ranks_ahead (rank_of x) (rank_of o) ≡ false) k
-    go [] d h = tt
-    go (x ∷ k) d h = (
-      later_key (rank_of x) (rank_of o) (subst (λ (z : Side). order_key o.side o.price < order_key z x.price) (sym d.0.0)
-          (subst (λ (z : Side). order_key z o.price < order_key Buy x.price) (sym e)
-          (behind_key Buy x.price o.price r.price l w (λ _. h.0) (λ z. absurd (apart z))))),
-      go k d.1 h.1,
-    )
-      where
-        apart : Buy ≡ Sell → ⊥
-        apart z = let u : ◌≡◌ {A = ℕ} 0 1 = cc in omega arith
-all_behind Sell o r b e l w d c = go b.sell d c
-  where
-    go : (k : List Order) → AllByRecursion (OnSide Sell) k → AllByRecursion (λ (x : Order). level r.price < level x.price) k →
-        AllByRecursion (λ (x : Order). ranks_ahead (rank_of x) (rank_of o) ≡ false) k
-    go [] d h = tt
-    go (x ∷ k) d h = (
-      later_key (rank_of x) (rank_of o) (subst (λ (z : Side). order_key o.side o.price < order_key z x.price) (sym d.0.0)
-          (subst (λ (z : Side). order_key z o.price < order_key Sell x.price) (sym e)
-          (behind_key Sell x.price o.price r.price l w (λ z. absurd (apart z)) (λ _. h.0)))),
-      go k d.1 h.1,
-    )
-      where
-        apart : Sell ≡ Buy → ⊥
-        apart z = let u : ◌≡◌ {A = ℕ} 0 1 = cc in omega arith
+all_behind Buy o r b e l w d c = further_behind Buy o r b.buy e l w d c
+all_behind Sell o r b e l w d c = further_behind Sell o r b.sell e l w d c
 
 within_itself : (s : Side) (p : Price) → within_limit s p p ≡ true
 within_itself Buy p = le-leb (level p) (level p) (omega arith)

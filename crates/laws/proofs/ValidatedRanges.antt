@@ -1,6 +1,6 @@
 -- What the checks of a form give: an entry that is proper, a change within its ranges.
 use Rattle.std.proofs.Common.{◌≡◌, ℕ, ◌≤◌, false, ◌&&◌, ◌||◌, ltb, leb, Some, None, Ok, Err, Option, Result, unwrap_or, arith}
-use Rattle.std.proofs.lemmas.Bool.{cond_both, and_parts, leb-true, or_parts}
+use Rattle.std.proofs.lemmas.Bool.{cond_both, and_parts, leb-true, or_parts, ltb-false}
 use Rattle.std.proofs.lemmas.Bool.Decides.{nat_tests}
 use Rattle.orders.specs.declared.price.Price.{Price}
 use Rattle.orders.specs.Prices.{in_price_range}
@@ -100,7 +100,12 @@ allowed_ok a r = cond_both (barred a) (Err _) (Ok a) (IfOk ValidEntry) (λ _. tt
     ((is_immediate a.validity && ltb 0 a.disclosed) || (ltb a.quantity a.minimum || disclosed_barred a.quantity a.disclosed)) e in
     let c = or_parts (is_immediate a.validity && ltb 0 a.disclosed) (ltb a.quantity a.minimum || disclosed_barred a.quantity a.disclosed) b.1 in
     let d = or_parts (ltb a.quantity a.minimum) (disclosed_barred a.quantity a.disclosed) c.1 in
-    record { allowed = allowed_from a.quantity a.disclosed r.some r.few d.1; price_in_range = r.price_in_range })
+    record {
+      allowed = allowed_from a.quantity a.disclosed r.some r.few d.1;
+      price_in_range = r.price_in_range;
+      stop = b.0;
+      least = ltb-false a.quantity a.minimum d.0;
+    })
 
 pub entry_ok : (f : EntryForm) → IfOk ValidEntry (validate_entry f)
 entry_ok f = go (wrong_blank f)

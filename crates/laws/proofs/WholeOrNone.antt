@@ -14,7 +14,7 @@ use Rattle.tapes.specs.Logs.{Log}
 use Rattle.forms.specs.declared.form.EntryForm.{EntryForm}
 use Rattle.forms.specs.declared.form.Form.TheVariants.{Entry}
 use Rattle.forms.specs.declared.refusal.Refusal.{Refusal}
-use Rattle.forms.specs.declared.refusal.Refusal.TheVariants.{Barred, WrongDay}
+use Rattle.forms.specs.declared.refusal.Refusal.TheVariants.{WrongDay}
 use Rattle.matching.specs.declared.new_order.OrderType.{OrderType}
 use Rattle.matching.specs.declared.new_order.OrderType.TheVariants.{Limit, Market, StopLimit}
 use Rattle.matching.specs.declared.new_order.NewOrder.{NewOrder}
@@ -23,9 +23,8 @@ use Rattle.matching.specs.Running.{total, first_order, run_to_rest}
 use Rattle.matching.specs.Reach.{reach}
 use Rattle.matching.specs.Entering.{entered_order, all_or_none, falls_short, accepts_or_cancels, market_arrival, arrival_as, enter}
 use Rattle.forms.specs.Results.{and_then}
-use Rattle.validation.specs.Cells.{blanks_first}
-use Rattle.validation.specs.Combinations.{is_stop, disclosed_barred, barred}
-use Rattle.validation.specs.Entries.{wrong_blank, typed_entry, if_allowed, validate_entry}
+use Rattle.validation.specs.Combinations.{is_stop}
+use Rattle.validation.specs.Entries.{validate_entry}
 use Rattle.venue.specs.declared.day.Day.{Day}
 use Rattle.venue.specs.declared.day.Day.TheVariants.{Open, Closed}
 use Rattle.venue.specs.Steps.{answered, after_answer, entry_answer}
@@ -40,32 +39,11 @@ use Rattle.laws.proofs.LinesAndStamps.{tape, tape_is}
 use Rattle.laws.proofs.RunsToRest.{consistent_apply, Quiescent, quiescent_run_to_rest, run_to_rest_runs}
 use Rattle.laws.proofs.EntryArrives.{ValidEntry, may_apply_arrival}
 use Rattle.laws.proofs.RoomSuffices.{RoomForStep, BeginsStep, first_has_room, rest_has_room_at_first, begins_arrival}
-use Rattle.laws.proofs.ValidatedRanges.{IfOk, ok_then, any_ok}
+use Rattle.laws.proofs.ValidatedRanges.{IfOk}
 use Rattle.laws.proofs.EachForm.{EntryGiven, entry_given}
 use Rattle.laws.proofs.WholeRuns.{after_set_up}
 use Rattle.laws.proofs.ReachFalls.{reach_is_unlimited_trade}
 use Rattle.laws.proofs.TradesReach.{runs_to_more, runs_to_quantity, standing_turns_drawn, traded_on, run_to_rest_trades}
-
--- what is not barred
-
-pub record NotBarred (a : NewOrder) : Type 0 where
-  pub stop : (is_stop a.order_type && (is_immediate a.validity || ltb 0 a.minimum)) ≡ false
-  pub least : a.minimum ≤ a.quantity
-
-not_barred_ok : (a : NewOrder) → IfOk NotBarred (if_allowed a)
-not_barred_ok a = cond_both (barred a) (Err Barred) (Ok a) (IfOk NotBarred) (λ _. tt)
-    (λ e. let b = or_parts (is_stop a.order_type && (is_immediate a.validity || ltb 0 a.minimum))
-    ((is_immediate a.validity && ltb 0 a.disclosed) || (ltb a.quantity a.minimum || disclosed_barred a.quantity a.disclosed)) e in
-    let c = or_parts (is_immediate a.validity && ltb 0 a.disclosed) (ltb a.quantity a.minimum || disclosed_barred a.quantity a.disclosed) b.1 in
-    let d = or_parts (ltb a.quantity a.minimum) (disclosed_barred a.quantity a.disclosed) c.1 in
-    record { stop = b.0; least = ltb-false a.quantity a.minimum d.0 })
-
-entry_not_barred : (form : EntryForm) → IfOk NotBarred (validate_entry form)
-entry_not_barred form = go (wrong_blank form)
-  where
-    go : (m : Option ℕ) → IfOk NotBarred (blanks_first m (and_then (typed_entry form) if_allowed))
-    go None = ok_then (λ _. Unit {0}) NotBarred (typed_entry form) if_allowed (any_ok (typed_entry form)) (λ a _. not_barred_ok a)
-    go (Some cell) = tt
 
 -- an order that wants all never waits
 all_is_immediate : (v : Validity) → all_or_none v ≡ true → is_immediate v ≡ true
@@ -74,7 +52,7 @@ all_is_immediate Gtc e = e
 all_is_immediate Ioc e = refl
 all_is_immediate Fok e = refl
 
-module _ (a : NewOrder) (f : MatchState) (p : ValidEntry a) (u : NotBarred a) (s : RoomForStep f) (c : Quiescent f) where
+module _ (a : NewOrder) (f : MatchState) (p : ValidEntry a) (s : RoomForStep f) (c : Quiescent f) where
   abbrev FilledAfter : Event → Type 0
   FilledAfter e = BeginsStep e → MayApply e f → Filled a (traded_on f.session.next_stamp (run_to_rest (apply e f)))
 
@@ -133,7 +111,7 @@ module _ (a : NewOrder) (f : MatchState) (p : ValidEntry a) (u : NotBarred a) (s
       let lots : ℕ = traded_on n (run_to_rest (apply ev f)) in (
         λ all. inr (whole_of (all_or_none a.validity) all k.1 (λ r. (let z : a.quantity ≤ R = r in let y : lots ≡ a.quantity = omega
             (arith, none_yet) in y))),
-        inr (let z : a.minimum ≤ lots = omega (arith, u.least) in z),
+        inr (let z : a.minimum ≤ lots = omega (arith, p.least) in z),
       )
     where
       whole_of : {A : Type 0} {R Q : ℕ} (v : Bool) → v ≡ true → (v && ltb R Q) ≡ false → (Q ≤ R → A) → A
@@ -147,7 +125,7 @@ module _ (a : NewOrder) (f : MatchState) (p : ValidEntry a) (u : NotBarred a) (s
 
   filled_stop : is_stop a.order_type ≡ true → (lots : ℕ) → Filled a lots
   filled_stop e lots =
-      let k = plain (is_stop a.order_type) (is_immediate a.validity) (ltb 0 a.minimum) e u.stop in
+      let k = plain (is_stop a.order_type) (is_immediate a.validity) (ltb 0 a.minimum) e p.stop in
       ((λ all. absurd (both_ways (is_immediate a.validity) k.0 (all_is_immediate a.validity all))), inr (omega (arith, ltb-false 0 a.minimum k.1)))
     where
       plain : (x y z : Bool) → x ≡ true → (x && (y || z)) ≡ false → (y ≡ false) × (z ≡ false)
@@ -168,22 +146,22 @@ module _ (a : NewOrder) (f : MatchState) (p : ValidEntry a) (u : NotBarred a) (s
 
 -- in every state of a run
 
-filled_answered : (form : EntryForm) (f : MatchState) (a : NewOrder) (r : Result NewOrder Refusal) → Quiescent f → IfOk (EntryGiven form f) r → NotBarred a →
+filled_answered : (form : EntryForm) (f : MatchState) (a : NewOrder) (r : Result NewOrder Refusal) → Quiescent f → IfOk (EntryGiven form f) r →
     validate_entry form ≡ Ok a → answered r ≡ Ok tt → Filled a (traded_on f.session.next_stamp (after_answer enter r f))
-filled_answered form f a (Ok b) c h u e k =
+filled_answered form f a (Ok b) c h e k =
     let z : b ≡ a = same b a (sym h.2 ∙ e) in
-    subst (λ (x : NewOrder). Filled a (traded_on f.session.next_stamp (enter x f))) (sym z) (filled_enter a f (subst ValidEntry z h.0) u h.1 c)
+    subst (λ (x : NewOrder). Filled a (traded_on f.session.next_stamp (enter x f))) (sym z) (filled_enter a f (subst ValidEntry z h.0) h.1 c)
   where
     same : (x y : NewOrder) → ◌≡◌ {A = Result NewOrder Refusal} (Ok x) (Ok y) → x ≡ y
     same x y e = cc
-filled_answered form f a (Err x) c h u e k = let z : ◌≡◌ {A = ℕ} 0 1 = cc in absurd (omega arith)
+filled_answered form f a (Err x) c h e k = let z : ◌≡◌ {A = ℕ} 0 1 = cc in absurd (omega arith)
 
-filled_on : (d : Day) (form : EntryForm) (q : Queues) (r : Log) (a : NewOrder) → Quiescent (between_steps q r (session_of d)) → NotBarred a → validate_entry form ≡ Ok a →
+filled_on : (d : Day) (form : EntryForm) (q : Queues) (r : Log) (a : NewOrder) → Quiescent (between_steps q r (session_of d)) → validate_entry form ≡ Ok a →
     answer_on d (Entry form) q r ≡ Ok tt → Filled a (total (traded_lots (session_of d).next_stamp) (step_on d (Entry form) q r).tape.lines)
-filled_on (Open o) form q r a c u e k =
+filled_on (Open o) form q r a c e k =
     let f : MatchState = between_steps q r o.session in
-    filled_answered form f a (entry_answer form f) c (entry_given form f) u e k
-filled_on (Closed o) form q r a c u e k = absurd (never (validate_entry form) k)
+    filled_answered form f a (entry_answer form f) c (entry_given form f) e k
+filled_on (Closed o) form q r a c e k = absurd (never (validate_entry form) k)
   where
     never : (x : Result NewOrder Refusal) → ◌≡◌ {A = Result (Unit {0}) Refusal} (and_then {A = NewOrder} {B = Unit {0}} x (λ _. Err WrongDay)) (Ok tt) → ⊥
     never (Ok x) z = let y : ◌≡◌ {A = ℕ} 0 1 = cc in omega arith
@@ -193,7 +171,7 @@ pub always_filled : AlwaysFilled
 always_filled day stamp q limit forms form a e k =
     let s : State = after forms (set_up day stamp q limit) in
     let c = (after_set_up day stamp q limit forms).0 in
-    filled_on s.day form s.queues s.tape a c (subst (IfOk NotBarred) e (entry_not_barred form)) e k
+    filled_on s.day form s.queues s.tape a c e k
 
 pub reach_means : ReachMeans
 reach_means day stamp q limit forms o trades m =
