@@ -1,11 +1,12 @@
--- Number, price and type cells: a value comes from a good cell, and a refusal names the first wrong byte.
+-- Number, price and type cells: a value comes from a good cell, and a refusal names the first wrong
+-- byte.
 use Rattle.std.proofs.Common.{◌≡◌, ℕ, zero, suc, ◌+◌, ◌-◌, ◌*◌, ◌<◌, ◌≤◌, Bool, true, false, cond, ◌&&◌, eqb, ltb, List, [], ◌∷◌, ◌++◌, length, get_or, take, drop, replicate, Some, None, Ok, Err, sym, refl, ap, ◌∙◌, subst, ⊎_elim, arith, lit≤, ltb-false, ltb-true, eqb-true}
 use borrow.Author.Tests.{eqb-false}
 use Rattle.std.proofs.lemmas.List.{length-drop, length-replicate, get_or-replicate, get_or-drop, get_or_past, nil_from_length}
 use Rattle.std.proofs.lemmas.Bool.{cases_eq, cases_lt, true≢false}
 use Rattle.orders.specs.declared.price.Price.{Price}
 use Rattle.sheets.specs.Cells.{is_digit, digits, digits_number, is_blank, read_number, read_price, read_type}
-use Rattle.sheets.specs.GoodCells.{GoodNumber, GoodPrice, GoodType, Begins, FirstWrong, ReadsOrTells, CellsReadOrTell}
+use Rattle.sheets.specs.GoodCells.{GoodNumber, GoodPrice, GoodType, Begins, FirstWrong, ReadByFormat, CellsReadByFormat}
 use Rattle.sheets.proofs.FrontDigits.{within_most, within_cell, digit_at, stops_at, length_put, front_put, back_put}
 
 -- a byte is not both a digit and something else
@@ -47,11 +48,11 @@ module _ (bs : List ℕ) where
       (ap is_digit (sym (front_put bs rest (n + 1) w n (omega arith))) ∙ g.digits n (omega arith))
       (stops_at 12 bs (omega (arith, g.few)) h)
 
-  number_told : ReadsOrTells GoodNumber bs (read_number bs)
-  number_told = by (is_blank bs) (eqb (digits 12 bs) (length bs)) refl refl
+  number_by_format : ReadByFormat GoodNumber bs (read_number bs)
+  number_by_format = by (is_blank bs) (eqb (digits 12 bs) (length bs)) refl refl
     where
       by : (t u : Bool) → is_blank bs ≡ t → eqb (digits 12 bs) (length bs) ≡ u
-          → ReadsOrTells GoodNumber bs (cond t (Ok None) (cond u (Ok (Some (digits_number 12 bs))) (Err (digits 12 bs + 1))))
+          → ReadByFormat GoodNumber bs (cond t (Ok None) (cond u (Ok (Some (digits_number 12 bs))) (Err (digits 12 bs + 1))))
       by true u p q = nil_from_length bs (eqb-true (length bs) 0 p)
       by false true p q =
           let e : digits 12 bs ≡ length bs = eqb-true (digits 12 bs) (length bs) q in
@@ -64,7 +65,7 @@ module _ (bs : List ℕ) where
           let ne : digits 12 bs ≡ length bs → ⊥ = eqb-false (digits 12 bs) (length bs) q in
           let less : digits 12 bs < length bs = omega (arith, within_cell 12 bs) in
           record {
-            q = digits 12 bs;
+            right = digits 12 bs;
             counted = refl;
             bad = λ g. clash (is_digit (get_or bs (digits 12 bs) 0)) (g.digits (digits 12 bs) less)
                 (stops_at 12 bs (omega (arith, g.few)) less);
@@ -112,7 +113,7 @@ module _ (bs : List ℕ) where
           whole = n;
           some = omega arith;
           few = within_most 6 bs;
-          long = l;
+          long = omega (arith, l);
           comma = let z : n - n ≡ 0 = omega arith in back_put bs rest n w n (omega arith) ∙ ap (λ k. get_or rest k 0) z;
           digits = λ i h ni. ⊎_elim
               (λ less. ap is_digit (front_put bs rest n w i less) ∙ digit_at 6 bs i less)
@@ -137,7 +138,7 @@ module _ (bs : List ℕ) where
 
   wrong_before : (1 ≤ digits 6 bs → get_or bs (digits 6 bs) 0 ≡ 44 → ⊥) → FirstWrong GoodPrice bs (digits 6 bs + 1)
   wrong_before nc = record {
-    q = digits 6 bs;
+    right = digits 6 bs;
     counted = refl;
     bad = λ g. wrong_whole nc (omega (arith, g.long, before_comma bs g (digits 6 bs) (digit_at 6 bs))) bs (λ i h. refl) g;
     begins = begins_whole;
@@ -180,7 +181,7 @@ module _ (bs : List ℕ) (some : 1 ≤ digits 6 bs) (comma : get_or bs (digits 6
           whole = n;
           some = some;
           few = within_most 6 bs;
-          long = l;
+          long = omega (arith, l);
           comma = front_put bs rest (n + 1 + m) w n (omega arith) ∙ comma;
           digits = λ i h ni. ⊎_elim
               (λ less. ap is_digit (front_put bs rest (n + 1 + m) w i less)
@@ -209,7 +210,7 @@ module _ (bs : List ℕ) (some : 1 ≤ digits 6 bs) (comma : get_or bs (digits 6
       let m = digits 2 (cents bs) in
       let two : m ≤ 2 = within_most 2 (cents bs) in
       record {
-        q = n + 1 + m;
+        right = n + 1 + m;
         counted = refl;
         bad = λ g.
             let e : n ≡ g.whole = at_comma bs g n there comma in
@@ -226,8 +227,8 @@ module _ (bs : List ℕ) (some : 1 ≤ digits 6 bs) (comma : get_or bs (digits 6
             wrong_cents (omega (arith, b.1.long)) h xs same (omega arith) b.1;
       }
 
-  queues_price : digits 2 (cents bs) ≡ 2 → length (cents bs) ≡ 2 → GoodPrice bs
-  queues_price e l = record {
+  good_price : digits 2 (cents bs) ≡ 2 → length (cents bs) ≡ 2 → GoodPrice bs
+  good_price e l = record {
     whole = digits 6 bs;
     some = some;
     few = within_most 6 bs;
@@ -237,14 +238,14 @@ module _ (bs : List ℕ) (some : 1 ≤ digits 6 bs) (comma : get_or bs (digits 6
         (λ more. cent_at i (omega arith) (omega (arith, length_cents))) (cases_lt i (digits 6 bs));
   }
 
-price_told : (bs : List ℕ) → ReadsOrTells GoodPrice bs (read_price bs)
-price_told bs =
+price_by_format : (bs : List ℕ) → ReadByFormat GoodPrice bs (read_price bs)
+price_by_format bs =
     by (is_blank bs) (ltb 0 (digits 6 bs)) (eqb (get_or bs (digits 6 bs) 0) 44)
     (eqb (digits 2 (cents bs)) 2) (eqb (length (cents bs)) 2) refl refl refl refl refl
   where
     by : (t a b c d : Bool) → is_blank bs ≡ t → ltb 0 (digits 6 bs) ≡ a → eqb (get_or bs (digits 6 bs) 0) 44 ≡ b
         → eqb (digits 2 (cents bs)) 2 ≡ c → eqb (length (cents bs)) 2 ≡ d
-        → ReadsOrTells {A = Price} GoodPrice bs (cond t (Ok None) (cond (a && b)
+        → ReadByFormat {A = Price} GoodPrice bs (cond t (Ok None) (cond (a && b)
         (cond (c && d) (Ok (Some (record { hundredths = digits_number 6 bs * 100 + digits_number 2 (cents bs) })))
         (Err (digits 6 bs + 1 + digits 2 (cents bs) + 1)))
         (Err (digits 6 bs + 1))))
@@ -258,20 +259,20 @@ price_told bs =
         wrong_behind bs (ltb-true 0 (digits 6 bs) pa) (eqb-true (get_or bs (digits 6 bs) 0) 44 pb)
         (λ k l. eqb-false (length (cents bs)) 2 pd l)
     by false true true true true pt pa pb pc pd =
-        queues_price bs (ltb-true 0 (digits 6 bs) pa) (eqb-true (get_or bs (digits 6 bs) 0) 44 pb)
+        good_price bs (ltb-true 0 (digits 6 bs) pa) (eqb-true (get_or bs (digits 6 bs) 0) 44 pb)
         (eqb-true (digits 2 (cents bs)) 2 pc) (eqb-true (length (cents bs)) 2 pd)
 
-type_told : (bs : List ℕ) → ReadsOrTells GoodType bs (read_type bs)
-type_told [] = refl
-type_told (b ∷ []) = refl
-type_told (b ∷ (c ∷ bs)) = record {
-  q = 1;
+type_by_format : (bs : List ℕ) → ReadByFormat GoodType bs (read_type bs)
+type_by_format [] = refl
+type_by_format (b ∷ []) = refl
+type_by_format (b ∷ (c ∷ bs)) = record {
+  right = 1;
   counted = refl;
   bad = λ g. omega arith;
   begins = ([], refl);
   ends = λ h g. let k = g.1 in omega arith;
 }
 
-pub cells_told : CellsReadOrTell
-unfolding CellsReadOrTell
-cells_told bs = (number_told bs, price_told bs, type_told bs)
+pub cells_by_format : CellsReadByFormat
+unfolding CellsReadByFormat
+cells_by_format bs = (number_by_format bs, price_by_format bs, type_by_format bs)

@@ -13,7 +13,8 @@ use Rattle.sheets.specs.declared.directory.Directory.{Directory}
 use Rattle.sheets.specs.declared.directory.Directory.TheVariants.{Rows, Cells}
 
 module _ (d : Directory) (bs : List ℕ) where
-  -- a walk that meets no misplaced pair: the pair at its start is placed, and the walk goes on from its end
+  -- a walk that meets no misplaced pair: the pair at its start is placed, and the walk goes on from
+  -- its end
   pub placed_first : (n k least : ℕ) → first_misplaced_from d bs (suc n) k least ≡ None
       → (pair_end d bs k least ≡ Some (ends_at d bs k)) × (first_misplaced_from d bs n (k + 1) (ends_at d bs k) ≡ None)
   placed_first n k least e = both (pair_end d bs k least) refl e

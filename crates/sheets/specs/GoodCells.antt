@@ -1,45 +1,53 @@
--- What a good cell is, in the format's words; and a refused cell names the first byte that cannot stand there.
+-- What a good cell is, in the words of the format, and that cells are read by it.
 use Rattle.std.specs.Prelude.{◌≡◌, ℕ, ◌+◌, ◌<◌, ◌≤◌, true, List, [], ◌++◌, length, take, Some, None, Ok, Err, Option, Result, ◌≢◌, slice_index, slice_index_or}
 use Rattle.sheets.specs.Cells.{is_digit, read_number, read_price, read_type}
+use Rattle.sheets.specs.declared.cells.TheConstants.{NUMBER_DIGITS, WHOLE_DIGITS, CENT_DIGITS, COMMA}
 
--- 1 to 12 digits
-pub record GoodNumber (bs : List ℕ) : Type 0 where
-  pub some : 1 ≤ length bs
-  pub few : length bs ≤ 12
-  pub digits : (i : ℕ) → i < length bs → is_digit (slice_index bs i) ≡ true
+-- 1 to 12 digits (sheets 4)
+pub record GoodNumber (bytes : List ℕ) : Type 0 where
+  pub some : 1 ≤ length bytes
+  pub few : length bytes ≤ NUMBER_DIGITS
+  pub digits : (i : ℕ) → i < length bytes → is_digit (slice_index bytes i) ≡ true
 
--- 1 to 6 digits, a comma and two digits
-pub record GoodPrice (bs : List ℕ) : Type 0 where
+-- 1 to 6 digits, a comma and two digits (sheets 4)
+pub record GoodPrice (bytes : List ℕ) : Type 0 where
   pub whole : ℕ
   pub some : 1 ≤ whole
-  pub few : whole ≤ 6
-  pub long : length bs ≡ whole + 3
-  pub comma : slice_index_or bs whole 0 ≡ 44
-  pub digits : (i : ℕ) → i < length bs → (i ≢ whole) → is_digit (slice_index bs i) ≡ true
+  pub few : whole ≤ WHOLE_DIGITS
+  pub long : length bytes ≡ whole + 1 + CENT_DIGITS
+  pub comma : slice_index_or bytes whole 0 ≡ COMMA
+  pub digits : (i : ℕ) → i < length bytes → i ≢ whole → is_digit (slice_index bytes i) ≡ true
 
--- one byte
+-- one byte (sheets 4)
 abbrev pub GoodType : List ℕ → Type 0
-GoodType bs = length bs ≡ 1
+GoodType bytes = length bytes ≡ 1
 
--- some good cell begins so
-abbrev pub Begins : (List ℕ → Type 0) → List ℕ → Type 0
-Begins Good bs = (rest : List ℕ) × Good (bs ++ rest)
+-- some good cell begins with these bytes
+abbrev pub Begins : (Good : List ℕ → Type 0) → List ℕ → Type 0
+Begins Good bytes = (rest : List ℕ) × Good (bytes ++ rest)
 
--- the cell is not good; some good cell begins with its first q bytes, and none with one more; the place is q + 1
-pub record FirstWrong (Good : List ℕ → Type 0) (bs : List ℕ) (place : ℕ) : Type 0 where
-  pub q : ℕ
-  pub counted : q + 1 ≡ place
-  pub bad : Good bs → ⊥
-  pub begins : Begins Good (take q bs)
-  pub ends : q < length bs → Begins Good (take (q + 1) bs) → ⊥
+-- the place, from 1, of the first byte that cannot stand there: one past the longest beginning that
+-- some good cell has (sheets 4)
+pub record FirstWrong (Good : List ℕ → Type 0) (bytes : List ℕ) (place : ℕ) : Type 0 where
+  -- how many bytes that beginning has
+  pub right : ℕ
+  pub counted : right + 1 ≡ place
+  pub bad : Good bytes → ⊥
+  pub begins : Begins Good (take right bytes)
+  pub ends : right < length bytes → Begins Good (take (right + 1) bytes) → ⊥
 
--- a blank cell has no bytes, a value comes from a good cell, and a refused one is told by its first wrong byte
-abbrev pub ReadsOrTells : {A : Type 0} → (List ℕ → Type 0) → List ℕ → Result (Option A) ℕ → Type 0
-ReadsOrTells Good bs (Ok None) = bs ≡ []
-ReadsOrTells Good bs (Ok (Some v)) = Good bs
-ReadsOrTells Good bs (Err place) = FirstWrong Good bs place
+-- a cell that reads as blank has no bytes, one that reads as a value is good, and one that is
+-- refused names its first wrong byte (sheets 4)
+abbrev pub ReadByFormat : {A : Type 0} → (Good : List ℕ → Type 0)
+    → List ℕ → Result (Option A) ℕ → Type 0
+ReadByFormat Good bytes (Ok None) = bytes ≡ []
+ReadByFormat Good bytes (Ok (Some value)) = Good bytes
+ReadByFormat Good bytes (Err place) = FirstWrong Good bytes place
 
--- of every cell
-unfoldable pub CellsReadOrTell : Type 0
-CellsReadOrTell = (bs : List ℕ)
-    → ReadsOrTells GoodNumber bs (read_number bs) × ReadsOrTells GoodPrice bs (read_price bs) × ReadsOrTells GoodType bs (read_type bs)
+-- and so for every cell of each kind
+unfoldable pub CellsReadByFormat : Type 0
+CellsReadByFormat =
+    (bytes : List ℕ)
+    → ReadByFormat GoodNumber bytes (read_number bytes)
+    × ReadByFormat GoodPrice bytes (read_price bytes)
+    × ReadByFormat GoodType bytes (read_type bytes)

@@ -1,4 +1,5 @@
-// Looks into bytes: a byte past the end reads 0, and a part that would lie outside is cut.
+// Bytes by their place: a byte past the end reads 0, and a part that reaches past the end is cut
+// there.
 ghost use Rattle.std.specs.Prelude.{◌≡◌, drop, slice_index};
 ghost use Rattle.sheets.specs.Layout.{word, part};
 
@@ -8,7 +9,7 @@ pub(crate) fn byte_at(bytes: &[u8], i: usize) -> u8
     bytes.get(i).copied().unwrap_or(0)
 }
 
-// The two-byte number at i, the high byte first.
+// The two-byte number at place i, the high byte first.
 pub(crate) fn word_at(bytes: &[u8], i: u32) -> u16
     ensures { result ≡ word bytes.now i }
 {
@@ -16,12 +17,14 @@ pub(crate) fn word_at(bytes: &[u8], i: u32) -> u16
     u16::from_be_bytes([byte_at(bytes, at), byte_at(bytes, at + 1)])
 }
 
+/// The bytes from place i on, none where it is past the end.
 pub fn bytes_from(bytes: &[u8], i: usize) -> &[u8]
     ensures { result.now ≡ drop i bytes.now }
 {
     bytes.get(i..).unwrap_or(&[])
 }
 
+/// `len` bytes from an offset on, fewer where the bytes end before.
 pub fn part_of(bytes: &[u8], offset: usize, len: usize) -> &[u8]
     ensures { result.now ≡ part bytes.now offset len }
 {

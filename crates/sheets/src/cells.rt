@@ -1,5 +1,5 @@
-// What a single cell says. A refused cell gives the place, from 1, of the first byte that cannot stand there.
-// That place is all there is to say, and is a byte of the published reply: an error type around it would be no plainer.
+// Cells, read from their bytes. The error of an unreadable cell is its place, from 1, as the reply
+// has it: that of the first byte that cannot stand there.
 ghost use Rattle.std.specs.Prelude.{◌≡◌, ◌≤◌, length, take};
 ghost use Rattle.std.specs.Str.Parse.{AllDigits, digits_value};
 ghost use Rattle.std.specs.List.{prefix_len};
@@ -8,16 +8,27 @@ ghost use Rattle.sheets.specs.Cells.{is_digit, digits, read_number, read_price, 
 use super::bytes::{byte_at, bytes_from, part_of};
 use orders::price::Price;
 
-// The most digits that a number has, and those before and after a price's comma.
+// The most digits of a number cell.
 const NUMBER_DIGITS: usize = 12;
 
+// The most digits before the comma of a price cell.
 const WHOLE_DIGITS: usize = 6;
 
+// The digits behind the comma.
 const CENT_DIGITS: usize = 2;
+
+// The comma of a price cell.
+const COMMA: u8 = b',';
+
+/// The first number that a number cell has no room for.
+pub const CELL_NUMBERS_END: u64 = 1_000_000_000_000;
+
+/// The first price, in hundredths, that a price cell has no room for.
+pub const CELL_PRICES_END: u32 = 100_000_000;
 
 // How many digits stand at the front.
 fn digit_count(bytes: &[u8]) -> usize
-    ensures answer { result ≡ prefix_len is_digit bytes.now }
+    ensures { result ≡ prefix_len is_digit bytes.now }
 {
     bytes.iter().take_while(|b| b.is_ascii_digit()).count()
 }
@@ -33,11 +44,11 @@ fn digits_of(cell: &[u8], most: usize) -> &[u8]
     &start[..digit_count(start)]
 }
 
-// The number that digits write. By a loop: what a fold asks of its closure would need a longer proof.
+// The number that digits write.
 fn number_of(digits: &[u8]) -> u64
-    requires few { length digits.now ≤ 12 }
+    requires few { length digits.now ≤ NUMBER_DIGITS }
     requires all { AllDigits 10 digits.now }
-    ensures answer { result ≡ digits_value 10 digits.now }
+    ensures { result ≡ digits_value 10 digits.now }
 {
     let mut number = 0;
     for b in digits {
@@ -46,9 +57,10 @@ fn number_of(digits: &[u8]) -> u64
     number
 }
 
-// A number cell: 1 to 12 digits.
+/// A number cell: 1 to 12 digits, or none where it is blank. The error is the place, from 1, of the
+/// first byte that cannot stand there (docs/SHEETS.md, section 4).
 pub fn read_number(cell: &[u8]) -> Result<Option<u64>, u8>
-    ensures answer { result ≡ read_number cell.now }
+    ensures { result ≡ read_number cell.now }
 {
     if cell.is_empty() {
         return Ok(None);
@@ -61,15 +73,15 @@ pub fn read_number(cell: &[u8]) -> Result<Option<u64>, u8>
     }
 }
 
-// A price cell: 1 to 6 digits, a comma and two digits.
+/// A price cell: 1 to 6 digits, a comma and two digits; errors as for a number cell.
 pub fn read_price(cell: &[u8]) -> Result<Option<Price>, u8>
-    ensures answer { result ≡ read_price cell.now }
+    ensures { result ≡ read_price cell.now }
 {
     if cell.is_empty() {
         return Ok(None);
     }
     let whole = digits_of(cell, WHOLE_DIGITS);
-    if whole.is_empty() || byte_at(cell, whole.len()) != b',' {
+    if whole.is_empty() || byte_at(cell, whole.len()) != COMMA {
         return Err((whole.len() + 1) as u8);
     }
     let behind = bytes_from(cell, whole.len() + 1);
@@ -82,9 +94,9 @@ pub fn read_price(cell: &[u8]) -> Result<Option<Price>, u8>
     }))
 }
 
-// The type cell: any one byte.
+/// A type cell: any one byte; errors as for a number cell.
 pub fn read_type(cell: &[u8]) -> Result<Option<u8>, u8>
-    ensures answer { result ≡ read_type cell.now }
+    ensures { result ≡ read_type cell.now }
 {
     match cell {
         [] => Ok(None),

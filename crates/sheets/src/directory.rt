@@ -1,19 +1,19 @@
-// The two directories of a sheet: its own, of rows, and that of a row, of cells.
+// Directories: a sheet has one of its rows, and each row one of its cells.
 ghost use Rattle.std.specs.Prelude.{◌≡◌, ◌+◌, ◌*◌, ◌≤◌, IfSome};
 ghost use Rattle.sheets.specs.Layout.{part_at, offset_at, length_at, ends_at, pair_end, directory_end, first_misplaced};
 
 use super::bytes::{byte_at, part_of, word_at};
 
-// Two kinds of one directory, by an enum and not by a trait: the definitions name the kind.
-// What a directory's pairs name; they have two bytes a number in a sheet and one in a row.
+/// What the pairs of a directory name: the rows of a sheet, by numbers of two bytes, or the cells
+/// of a row, by numbers of one. A pair is an offset and a length.
 #[derive(Clone, Copy)]
 pub enum Directory {
     Rows,
     Cells,
 }
 
-// Offset and length are one look each: a shared one would be given what tells them apart, by kind.
 impl Directory {
+    // The offset of pair k.
     fn offset(self, bytes: &[u8], k: u16) -> u16
         ensures { result ≡ offset_at self bytes.now k }
     {
@@ -23,6 +23,7 @@ impl Directory {
         }
     }
 
+    // The length of pair k.
     fn length(self, bytes: &[u8], k: u16) -> u16
         ensures { result ≡ length_at self bytes.now k }
     {
@@ -32,7 +33,7 @@ impl Directory {
         }
     }
 
-    // Where a directory of `count` pairs ends.
+    /// Where a directory of `count` pairs ends.
     pub fn end(self, count: u16) -> usize
         ensures { result ≡ directory_end self count }
     {
@@ -53,7 +54,7 @@ impl Directory {
         )
     }
 
-    // The end of pair k, unless it starts before `least` or ends outside.
+    // The end of pair k, unless it is misplaced: it starts before `least`, or ends outside.
     fn end_if_placed(self, bytes: &[u8], k: u16, least: usize) -> Option<usize>
         ensures { result ≡ pair_end self bytes.now k least }
     {
@@ -71,7 +72,6 @@ impl Directory {
         ensures answer { result ≡ first_misplaced self bytes.now count }
         ensures within { IfSome result (λ k. k ≤ count) }
     {
-        // By k: the definitions and `part` name a pair by its number, and a `try_fold` that breaks off with an Err reads no plainer.
         let mut least = self.end(count);
         for k in 0..count {
             match self.end_if_placed(bytes, k, least) {

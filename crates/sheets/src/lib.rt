@@ -1,4 +1,4 @@
-// Reads an order sheet from bytes, and owes a reply for each of its rows.
+// Reads a sheet from bytes, row by row; with each row comes a slip, the duty to post one reply.
 #![tactic(auto)]
 
 pub mod bytes;

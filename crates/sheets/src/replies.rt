@@ -1,10 +1,10 @@
-// The list that replies are posted to.
+// The replies to the rows of sheets.
 ghost use Rattle.std.specs.Prelude.{◌≤◌, vec_len, vec_capacity};
 
 use super::reply::Reply;
 
-// Replies in the order of posting, at most `limit`, for which memory is held from the start.
-// Not one type with the tape: only a slip adds a reply, so a shared list would be wrapped here, call by call.
+/// The replies in the order of posting, at most `limit`; memory for all of them is reserved when
+/// the list is made. Only a slip adds one.
 #[derive(Drop)]
 pub struct Replies {
     list: Vec<Reply>,

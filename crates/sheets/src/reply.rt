@@ -1,11 +1,12 @@
-// What a row, or a refused sheet, is answered.
+// The answer to a row, or to a refused sheet.
 ghost use Rattle.std.specs.Prelude.{◌≡◌};
 ghost use Rattle.sheets.specs.Replies.{reply_of, sheet_reply};
 
 use forms::refusal::Refusal;
 
-// The numbers of the published reply, and not the refusal itself, since this is what is printed and compared.
-// Row and cell count from 1; number is 0 where the row was accepted, and cell and place are 0 where there is none.
+/// A reply: the answer to one row. Row, cell and place count from 1; number is that of the refusal,
+/// 0 where the row was accepted; cell and place are 0 where the refusal names none (docs/SHEETS.md,
+/// section 6).
 #[derive(Clone, Copy, Debug, PartialEq, Eq)]
 pub struct Reply {
     pub row: u16,
@@ -15,9 +16,9 @@ pub struct Reply {
 }
 
 impl Reply {
-    // The reply to a row.
+    /// The reply to a row.
     pub fn to_row(row: u16, answer: Result<(), Refusal>) -> Reply
-        ensures answer { result ≡ reply_of row answer }
+        ensures { result ≡ reply_of row answer }
     {
         match answer {
             Ok(()) => Reply {
@@ -35,9 +36,9 @@ impl Reply {
         }
     }
 
-    // The answer to a sheet that is refused before any row; nobody posts it.
+    /// The answer to a sheet that is refused before any row. It is not posted.
     pub fn to_sheet(refusal: Refusal) -> Reply
-        ensures answer { result ≡ sheet_reply refusal }
+        ensures { result ≡ sheet_reply refusal }
     {
         let row = match refusal {
             Refusal::RowMisplaced { row } => row,

@@ -1,4 +1,4 @@
-// A row taken apart: its letter, its cell count and its cells, read from the left.
+// Rows, read into forms: the letter, the cell count, the pairs and the cells, from the left.
 ghost use Rattle.std.specs.Prelude.{◌≡◌, ◌<◌};
 ghost use Rattle.std.specs.Fn.{FnOnceReturnsAt};
 ghost use Rattle.sheets.specs.Rows.{in_cell, check_cells, read_cells, read_lettered, read_form};
@@ -6,7 +6,7 @@ ghost use Rattle.sheets.specs.Layout.{part_at};
 ghost use Rattle.sheets.specs.declared.directory.Directory.TheVariants.{Cells};
 ghost use Rattle.sheets.specs.OwnBytes.{RowAlone, CellAlone};
 ghost use Rattle.sheets.specs.PairRule.{PairRule};
-ghost use Rattle.sheets.specs.GoodCells.{CellsReadOrTell};
+ghost use Rattle.sheets.specs.GoodCells.{CellsReadByFormat};
 ghost use Rattle.sheets.specs.Letters.{letter_of};
 ghost use Rattle.sheets.specs.Rows.{read_entry, read_change, read_cancel, read_mass_cancel, read_opening};
 
@@ -16,11 +16,12 @@ use super::letter::Letter;
 use forms::form::{CancelForm, ChangeForm, EntryForm, Form, MassCancelForm, OpeningForm};
 use forms::refusal::Refusal;
 
-// Cell k, from 0, as its reader says; a refusal counts it from 1.
+// Cell k, from 0, as its reader answers; a refusal counts it from 1.
 fn cell<T, F: FnOnce(&[u8]) -> Result<T, u8>>(row: &[u8], k: u8, read: F) -> Result<T, Refusal>
-    requires small { k < 255 }
+    requires small { k < u8.MAX }
     requires callable { F.IsAlwaysCallable read }
-    ensures answer { (said : _) × FnOnceReturnsAt F.FnOnce read (part_at Cells row.now k) said × (result ≡ in_cell k said) }
+    ensures { (said : _) × FnOnceReturnsAt F.FnOnce read (part_at Cells row.now k) said
+        × (result ≡ in_cell k said) }
 {
     read(Directory::Cells.part(row, u16::from(k))).map_err(|place| Refusal::Unreadable {
         cell: k + 1,
@@ -29,7 +30,7 @@ fn cell<T, F: FnOnce(&[u8]) -> Result<T, u8>>(row: &[u8], k: u8, read: F) -> Res
 }
 
 fn read_entry(row: &[u8]) -> Result<EntryForm, Refusal>
-    ensures answer { result ≡ read_entry row.now }
+    ensures { result ≡ read_entry row.now }
 {
     Ok(EntryForm {
         firm: cell(row, 0, read_number)?,
@@ -48,7 +49,7 @@ fn read_entry(row: &[u8]) -> Result<EntryForm, Refusal>
 }
 
 fn read_change(row: &[u8]) -> Result<ChangeForm, Refusal>
-    ensures answer { result ≡ read_change row.now }
+    ensures { result ≡ read_change row.now }
 {
     Ok(ChangeForm {
         firm: cell(row, 0, read_number)?,
@@ -62,7 +63,7 @@ fn read_change(row: &[u8]) -> Result<ChangeForm, Refusal>
 }
 
 fn read_cancel(row: &[u8]) -> Result<CancelForm, Refusal>
-    ensures answer { result ≡ read_cancel row.now }
+    ensures { result ≡ read_cancel row.now }
 {
     Ok(CancelForm {
         firm: cell(row, 0, read_number)?,
@@ -71,7 +72,7 @@ fn read_cancel(row: &[u8]) -> Result<CancelForm, Refusal>
 }
 
 fn read_mass_cancel(row: &[u8]) -> Result<MassCancelForm, Refusal>
-    ensures answer { result ≡ read_mass_cancel row.now }
+    ensures { result ≡ read_mass_cancel row.now }
 {
     Ok(MassCancelForm {
         firm: cell(row, 0, read_number)?,
@@ -82,16 +83,16 @@ fn read_mass_cancel(row: &[u8]) -> Result<MassCancelForm, Refusal>
 }
 
 fn read_opening(row: &[u8]) -> Result<OpeningForm, Refusal>
-    ensures answer { result ≡ read_opening row.now }
+    ensures { result ≡ read_opening row.now }
 {
     Ok(OpeningForm {
         day: cell(row, 0, read_number)?,
     })
 }
 
-// Reads the cells that a row of the letter has.
+// The form of a row by its letter: its cells, from the left.
 fn read_cells(letter: Letter, row: &[u8]) -> Result<Form, Refusal>
-    ensures answer { result ≡ read_cells letter row.now }
+    ensures { result ≡ read_cells letter row.now }
 {
     match letter {
         Letter::Entry => read_entry(row).map(Form::Entry),
@@ -103,9 +104,10 @@ fn read_cells(letter: Letter, row: &[u8]) -> Result<Form, Refusal>
     }
 }
 
-// Whether the row has the cells of its letter and room for their pairs, and each pair is placed.
+// Refuses a row whose count is not its letter's, that has no room for its pairs, or one of whose
+// pairs is misplaced.
 fn check_cells(letter: Letter, count: u8, rest: &[u8], row: &[u8]) -> Result<(), Refusal>
-    ensures answer { result ≡ check_cells letter count rest.now row.now }
+    ensures { result ≡ check_cells letter count rest.now row.now }
 {
     if count != letter.cells() || rest.len() < 2 * usize::from(count) {
         return Err(Refusal::WrongCells);
@@ -116,23 +118,25 @@ fn check_cells(letter: Letter, count: u8, rest: &[u8], row: &[u8]) -> Result<(),
     Ok(())
 }
 
-// Reads a row whose two first bytes are named: its letter, then its pairs, then its cells.
+// A row by its two first bytes and the rest: its letter, then its pairs, then its cells.
 fn read_lettered(byte: u8, count: u8, rest: &[u8], row: &[u8]) -> Result<Form, Refusal>
-    ensures answer { result ≡ read_lettered (letter_of byte) count rest.now row.now }
+    ensures { result ≡ read_lettered (letter_of byte) count rest.now row.now }
 {
     let letter = Letter::try_from(byte)?;
     check_cells(letter, count, rest, row)?;
     read_cells(letter, row)
 }
 
-// Reads a row into the form that it asks for. The laws of reading stand with it: a row hangs on its own bytes alone, and a
-// cell on its own; a directory is refused for its first misplaced pair, and a cell for its first byte that cannot stand there.
+/// The form of a row, or why it cannot be read: `UnknownRow`, `WrongCells`, `CellMisplaced` or
+/// `Unreadable`. Four laws stand with it: a row is read from its own bytes alone, and a cell from
+/// its own; a directory is refused for its first pair that breaks the pair rule, and a cell for its
+/// first byte that cannot stand there (docs/SHEETS.md, sections 2 to 4).
 pub fn read_form(row: &[u8]) -> Result<Form, Refusal>
     ensures answer { result ≡ read_form row.now }
     ensures rows { RowAlone }
     ensures cells { CellAlone }
     ensures pairs { PairRule }
-    ensures places { CellsReadOrTell }
+    ensures places { CellsReadByFormat }
 {
     match row {
         [letter, count, rest @ ..] => read_lettered(*letter, *count, rest, row),

@@ -1,19 +1,22 @@
-// The sheet as a whole: its directory is looked through once, and then it hands out its rows one by one.
-ghost use Rattle.std.specs.Prelude.{◌≡◌, ◌+◌, Some, None, Ok, Err, MatchOption, MatchResult};
-ghost use Rattle.sheets.specs.Sheets.{row_count, sheet_refusal, Begun, next_row, HandsOut, moved_on, rows_left};
+// A sheet: its directory is checked once, and then its rows are drawn one by one.
+ghost use Rattle.std.specs.Prelude.{◌≡◌, ◌+◌, IfOk, MatchOption};
+ghost use Rattle.std.specs.Result.{result_err};
+ghost use Rattle.sheets.specs.Sheets.{row_count, sheet_refusal, JustRead, next_row, IsDrawn, after_draw, rows_left};
 
 use super::bytes::word_at;
 use super::directory::Directory;
 use super::slip::Slip;
 use forms::refusal::Refusal;
 
-// The most rows and bytes that a sheet may have.
+/// The most rows that a sheet may have.
 pub const MOST_ROWS: u16 = 512;
 
-pub const MOST_BYTES: usize = 65535;
+/// The most bytes that a sheet may have.
+pub const MOST_BYTES: usize = 65_535;
 
-// A sheet's bytes, how many rows it has, and how many were handed out.
-// `done` is counted beside the bytes: a reader over the input slice, which walks the directory where it lies, is the form that the owner named. No Iterator: what is drawn must be used up.
+/// A sheet: one input of a directory and rows. It keeps the bytes, how many rows there are, and how
+/// many of them were drawn. It is no Iterator, since what an iterator gives could be dropped
+/// without a reply.
 #[derive(Drop)]
 pub struct Sheet<'a> {
     bytes: &'a [u8],
@@ -21,15 +24,16 @@ pub struct Sheet<'a> {
     done: u16,
 }
 
-// A row's bytes with the slip that is owed for it.
+/// A row that was drawn: its bytes, and the slip for its reply.
 pub struct Drawn<'a> {
     pub slip: Slip,
     pub bytes: &'a [u8],
 }
 
-// The count of rows, where the sheet is long enough for its count and directory and has no more rows and bytes than it may.
+// The count of rows, where the sheet has the bytes of its count and directory, and no more bytes
+// and rows than it may have.
 fn row_count(bytes: &[u8]) -> Result<u16, Refusal>
-    ensures answer { result ≡ row_count bytes.now }
+    ensures { result ≡ row_count bytes.now }
 {
     let rows = word_at(bytes, 0);
     if bytes.len() < 2
@@ -44,10 +48,11 @@ fn row_count(bytes: &[u8]) -> Result<u16, Refusal>
 }
 
 impl<'a> Sheet<'a> {
-    // Looks the directory through; the first row comes next.
+    /// Reads the count of rows and checks each pair of the directory; a sheet may be refused as
+    /// `ShortSheet` or `RowMisplaced`.
     pub fn read(bytes: &'a [u8]) -> Result<Sheet<'a>, Refusal>
-        ensures answer { MatchResult result (λ s. (sheet_refusal bytes.now ≡ None) × Begun bytes.now s)
-            (λ e. sheet_refusal bytes.now ≡ Some e) }
+        ensures ok { IfOk result (JustRead bytes.now) }
+        ensures err { result_err result ≡ sheet_refusal bytes.now }
     {
         let count = row_count(bytes)?;
         if let Some(row) = Directory::Rows.first_misplaced(bytes, count) {
@@ -60,17 +65,17 @@ impl<'a> Sheet<'a> {
         })
     }
 
-    // How many rows the sheet has.
+    /// How many rows the sheet has.
     pub fn rows(&self) -> u16
-        ensures answer { result ≡ self.now.count }
+        ensures { result ≡ self.now.count }
     {
         self.count
     }
 
-    // The next row with its slip, or none after the last.
+    /// The next row with its slip, or none after the last.
     pub fn draw(&mut self) -> Option<Drawn<'a>>
-        ensures answer { HandsOut (next_row self.old) result }
-        ensures state { self.new ≡ moved_on self.old }
+        ensures answer { IsDrawn (next_row self.old) result }
+        ensures state { self.new ≡ after_draw self.old }
         ensures rows { MatchOption result (rows_left self.old ≡ 0)
             (λ _. rows_left self.new + 1 ≡ rows_left self.old) }
     {

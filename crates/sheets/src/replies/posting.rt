@@ -1,4 +1,4 @@
-// What a list of replies can be asked, and how it grows.
+// How replies are added, counted and read.
 ghost use Rattle.std.specs.Prelude.{◌≡◌, [], IfOk};
 ghost use Rattle.sheets.specs.Replies.{posted, with_reply, free_replies};
 
@@ -7,23 +7,24 @@ use super::Replies;
 use std::alloc::{AllocError, Global};
 
 impl Replies {
-    // An empty list with room for `limit` replies.
+    /// An empty list with room for `limit` replies.
     pub fn new(heap: Global, limit: usize) -> Result<Replies, AllocError>
-        ensures answer { IfOk result (λ rs. (posted rs ≡ []) × (rs.limit ≡ limit)) }
+        ensures { IfOk result (λ replies. (posted replies ≡ []) × (replies.limit ≡ limit)) }
     {
         let list = Vec::with_capacity(heap, limit)?;
         Ok(Replies { list, limit })
     }
 
-    // How many more replies it takes.
+    /// How many more replies the list takes.
     pub fn free(&self) -> usize
-        ensures answer { result ≡ free_replies self.now }
+        ensures { result ≡ free_replies self.now }
     {
         self.limit - self.list.len()
     }
 
+    /// The replies, the oldest first.
     pub fn all(&self) -> &[Reply]
-        ensures answer { result.now ≡ posted self.now }
+        ensures { result.now ≡ posted self.now }
     {
         self.list.as_slice()
     }
