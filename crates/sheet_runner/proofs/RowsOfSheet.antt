@@ -4,10 +4,10 @@ use Rattle.std.proofs.lemmas.Bool.{ltb-true, ltb-false}
 use Rattle.sheets.specs.declared.sheet.Sheet.{Sheet}
 use Rattle.sheets.specs.declared.sheet.Drawn.{Drawn}
 use Rattle.sheets.specs.Layout.{word}
-use Rattle.sheets.specs.Sheets.{row_bytes, next_row, HandsOut, moved_on, rows_left, Begun}
+use Rattle.sheets.specs.Sheets.{row_bytes, next_row, IsDrawn, after_draw, rows_left, JustRead}
 use Rattle.sheet_runner.specs.SheetRuns.{SheetRun, after_row, after_rows}
 
--- what is left of a sheet, worked from here
+-- the rows of a sheet that are still to be drawn are worked
 abbrev pub rows_to_come : Sheet → SheetRun → SheetRun
 rows_to_come s d = after_rows (rows_left s) s.done s.bytes.now d
 
@@ -20,24 +20,24 @@ unfolding after_rows
 no_rows n k bs d e = rw e refl
 
 -- a row that is drawn is the next one
-pub a_row : (s : Sheet) (x : Drawn) (d : SheetRun) → HandsOut (next_row s) (Some x) → rows_to_come (moved_on s) (after_row x.slip.row x.bytes.now d) ≡ rows_to_come s d
+pub a_row : (s : Sheet) (x : Drawn) (d : SheetRun) → IsDrawn (next_row s) (Some x) → rows_to_come (after_draw s) (after_row x.slip.row x.bytes.now d) ≡ rows_to_come s d
 a_row s x d h = go (ltb s.done s.count) refl h
   where
-    go : (b : Bool) → ltb s.done s.count ≡ b → HandsOut (cond b (Some (s.done + 1, row_bytes s.bytes.now s.done)) None) (Some x) → rows_to_come (moved_on s) (after_row x.slip.row x.bytes.now d) ≡ rows_to_come s d
+    go : (b : Bool) → ltb s.done s.count ≡ b → IsDrawn (cond b (Some (s.done + 1, row_bytes s.bytes.now s.done)) None) (Some x) → rows_to_come (after_draw s) (after_row x.slip.row x.bytes.now d) ≡ rows_to_come s d
     go true e h =
         let l = ltb-true s.done s.count e in
         rw (e, h.0, h.1) (sym (one_row (s.count - s.done) (s.count - (s.done + 1)) s.done s.bytes.now d (omega arith)))
     go false e h = absurd h
 
--- none is drawn after the last
-pub no_row : (s : Sheet) (d : SheetRun) → HandsOut (next_row s) None → d ≡ rows_to_come s d
+-- after the last row none is drawn
+pub no_row : (s : Sheet) (d : SheetRun) → IsDrawn (next_row s) None → d ≡ rows_to_come s d
 no_row s d h = go (ltb s.done s.count) refl h
   where
-    go : (b : Bool) → ltb s.done s.count ≡ b → HandsOut (cond b (Some (s.done + 1, row_bytes s.bytes.now s.done)) None) None → d ≡ rows_to_come s d
+    go : (b : Bool) → ltb s.done s.count ≡ b → IsDrawn (cond b (Some (s.done + 1, row_bytes s.bytes.now s.done)) None) None → d ≡ rows_to_come s d
     go true e h = absurd h
     go false e h = let l = ltb-false s.done s.count e in sym (no_rows (s.count - s.done) s.done s.bytes.now d (omega arith))
 
-pub from_the_first : (bs : List ℕ) (s : Sheet) (d : SheetRun) → Begun bs s → rows_to_come s d ≡ after_rows (word bs 0) 0 bs d
+pub from_the_first : (bs : List ℕ) (s : Sheet) (d : SheetRun) → JustRead bs s → rows_to_come s d ≡ after_rows (word bs 0) 0 bs d
 from_the_first bs s d b =
     let n : s.count - s.done ≡ word bs 0 = omega (arith, b.count, b.done) in
     ap (λ k. after_rows k s.done s.bytes.now d) n

@@ -1,4 +1,5 @@
-// The desk: a row becomes a step, and its slip a reply.
+// Works sheets at a venue: each row asks for a step, and the step's answer is posted as the row's
+// reply.
 #![tactic(auto)]
 
 pub mod row;

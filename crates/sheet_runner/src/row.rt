@@ -1,4 +1,4 @@
-// One row: whatever comes of it, its reply is posted. Book, tape and replies are lent side by side, as to every step.
+// One row of a sheet.
 ghost use Rattle.std.specs.Prelude.{◌≡◌};
 ghost use Rattle.venue.specs.Days.{state};
 ghost use Rattle.sheet_runner.specs.SheetRuns.{sheet_run, after_row};
@@ -11,6 +11,8 @@ use sheets::sheet::Drawn;
 use tapes::tape::Tape;
 use venue::day::Day;
 
+/// Works a row that was drawn: the step that it asks for, or none where it cannot be read. Its
+/// reply is posted either way (docs/SHEETS.md, section 6).
 pub fn work_row<B: Book>(
     drawn: Drawn,
     day: Day,
@@ -18,7 +20,9 @@ pub fn work_row<B: Book>(
     tape: &mut Tape,
     replies: &mut Replies,
 ) -> Day
-    ensures { sheet_run (state (B.queues book.new) tape.new result) replies.new ≡ after_row drawn.entry.slip.row drawn.entry.bytes.now (sheet_run (state (B.queues book.old) tape.old day) replies.old) }
+    ensures { let before = sheet_run (state (B.queues book.old) tape.old day) replies.old in
+        sheet_run (state (B.queues book.new) tape.new result) replies.new
+        ≡ after_row drawn.entry.slip.row drawn.entry.bytes.now before }
 {
     let Drawn { slip, bytes } = drawn;
     let (day, answer) = match read_form(bytes) {

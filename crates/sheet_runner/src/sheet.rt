@@ -1,10 +1,11 @@
-// A whole sheet. Book, tape and replies are lent side by side, as to every step.
-ghost use Rattle.std.specs.Prelude.{◌≡◌, Some, None, MatchResult};
+// Whole sheets.
+ghost use Rattle.std.specs.Prelude.{◌≡◌, IfOk};
 ghost use Rattle.std.specs.Option.{option_map};
+ghost use Rattle.std.specs.Result.{result_err};
 ghost use Rattle.venue.specs.Days.{state};
 ghost use Rattle.sheets.specs.Replies.{sheet_reply, free_replies};
-ghost use Rattle.sheets.specs.Sheets.{Begun, sheet_refusal};
-ghost use Rattle.sheet_runner.specs.SheetRuns.{sheet_run, if_answerable, sheet_answer, after_sheet};
+ghost use Rattle.sheets.specs.Sheets.{JustRead};
+ghost use Rattle.sheet_runner.specs.SheetRuns.{sheet_run, refusal_before_rows, sheet_answer, after_sheet};
 
 use crate::row::work_row;
 use books::book::Book;
@@ -15,9 +16,12 @@ use sheets::sheet::Sheet;
 use tapes::tape::Tape;
 use venue::day::Day;
 
-// The sheet at its first row, or why it is refused before any row is worked.
+/// The sheet before its first row, or the refusal that it gets before any row is worked:
+/// `ShortSheet`, `RowMisplaced`, or `NoReplies` where it has more rows than the list has replies
+/// free (docs/NUMBERS.md, section 1).
 pub fn admit<'a>(bytes: &'a [u8], replies: &Replies) -> Result<Sheet<'a>, Refusal>
-    ensures { MatchResult result (λ s. (if_answerable bytes.now (free_replies replies.now) (sheet_refusal bytes.now) ≡ None) × Begun bytes.now s) (λ e. if_answerable bytes.now (free_replies replies.now) (sheet_refusal bytes.now) ≡ Some e) }
+    ensures ok { IfOk result (JustRead bytes.now) }
+    ensures err { result_err result ≡ refusal_before_rows bytes.now (free_replies replies.now) }
 {
     let sheet = Sheet::read(bytes)?;
     if replies.free() < usize::from(sheet.rows()) {
@@ -26,7 +30,8 @@ pub fn admit<'a>(bytes: &'a [u8], replies: &Replies) -> Result<Sheet<'a>, Refusa
     Ok(sheet)
 }
 
-// All rows of a sheet, or the one answer that a refused sheet gets, which nobody posts.
+/// Works a whole sheet, row by row. A refused sheet has no row worked; its one answer is returned,
+/// and not posted.
 pub fn work_sheet<B: Book>(
     bytes: &[u8],
     mut day: Day,
@@ -34,8 +39,11 @@ pub fn work_sheet<B: Book>(
     tape: &mut Tape,
     replies: &mut Replies,
 ) -> (Day, Option<Reply>)
-    ensures answer { result.1 ≡ option_map sheet_reply (sheet_answer bytes.now (sheet_run (state (B.queues book.old) tape.old day) replies.old)) }
-    ensures state { sheet_run (state (B.queues book.new) tape.new result.0) replies.new ≡ after_sheet bytes.now (sheet_run (state (B.queues book.old) tape.old day) replies.old) }
+    ensures answer { let before = sheet_run (state (B.queues book.old) tape.old day) replies.old in
+        result.1 ≡ option_map sheet_reply (sheet_answer bytes.now before) }
+    ensures state { let before = sheet_run (state (B.queues book.old) tape.old day) replies.old in
+        sheet_run (state (B.queues book.new) tape.new result.0) replies.new
+        ≡ after_sheet bytes.now before }
 {
     let mut sheet = match admit(bytes, replies) {
         Ok(sheet) => sheet,

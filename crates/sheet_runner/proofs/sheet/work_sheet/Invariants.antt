@@ -5,7 +5,7 @@ use Rattle.sheet_runner.specs.SheetRuns.{sheet_run}
 use Rattle.sheet_runner.proofs.RowsOfSheet.{rows_to_come}
 use Rattle.sheet_runner.proofs.sheet.work_sheet.Given as goal
 
--- what is left of the sheet, worked from here, ends as the whole sheet does
+-- the rows still to be drawn, worked from here, lead to where the whole sheet does
 abbrev pub invariant-loop-drawn : goal.invariant-loop-drawn
 invariant-loop-drawn g l =
     rows_to_come l.sheet (sheet_run (state (g.B.Book.queues l.book) l.tape l.day) l.replies)
