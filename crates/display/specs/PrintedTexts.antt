@@ -1,5 +1,6 @@
--- What is printed, byte by byte.
-use Rattle.std.specs.Prelude.{ℕ, ◌/◌, ◌%◌, List, ◌++◌, Some, None, codes, decimal, encode_utf8, Option}
+-- Printed text, byte by byte (rules 2, 16, 17).
+use Rattle.std.specs.Prelude.{ℕ, ◌/◌, ◌%◌, List, ◌++◌, codes, decimal, encode_utf8, Option}
+use Rattle.std.specs.Option.{unwrap_or}
 use Rattle.orders.specs.declared.price.Price.{Price}
 use Rattle.orders.specs.declared.order.Order.{Order}
 use Rattle.orders.specs.declared.side.Side.{Side}
@@ -10,53 +11,72 @@ use Rattle.tapes.specs.declared.cause.Cause.{Cause}
 use Rattle.tapes.specs.declared.line.Line.{Line}
 use Rattle.tapes.specs.declared.line.Line.TheVariants.{Accepted, Replaced, Triggered, Traded, Cancelled}
 use Rattle.display.specs.declared.text.Fields.{Fields}
+use Rattle.display.specs.declared.text.TheConstants.{ACCEPTED, REPLACED, TRIGGERED, TRADED, CANCELLED}
 
--- hundredths, with a comma and two digits, as 0,05 and 20,00
+-- hundredths, with a comma and two digits, as 0,05 and 20,00 (rules 2)
 abbrev pub price_text : ℕ → List ℕ
-price_text h = decimal (h / 100) ++ (codes "," ++ (decimal (h % 100 / 10) ++ decimal (h % 10)))
+price_text hundredths =
+    decimal (hundredths / 100)
+    ++ (codes "," ++ (decimal (hundredths % 100 / 10) ++ decimal (hundredths % 10)))
 
--- an absent limit prints as 0,00
+-- an absent limit prints as 0,00 (rules 2)
 abbrev pub price_of : Option Price → Price
-price_of (Some p) = p
-price_of None = record { hundredths = 0 }
+price_of limit = unwrap_or limit (record { hundredths = 0 })
 
--- the fields of a line that has no other order and no cause; with one; with the other
-abbrev pub of_one : ℕ → ℕ → Price → ℕ → Fields
-of_one kind n price lots = record { kind = kind; number = n; other = 0; price = price; lots = lots; cause = 0 }
+-- a line that names one order and no cause (rules 16)
+abbrev pub for_order : (kind number : ℕ) → Price → (lots : ℕ) → Fields
+for_order kind number price lots = record {
+  kind = kind;
+  number = number;
+  other = 0;
+  price = price;
+  lots = lots;
+  cause = 0;
+}
 
-abbrev pub with_other : Fields → ℕ → Fields
-with_other x other = record { kind = x.kind; number = x.number; other = other; price = x.price; lots = x.lots; cause = x.cause }
+-- the same with the resting order of a trade (rules 16)
+abbrev pub with_other : Fields → (other : ℕ) → Fields
+with_other fields other = record fields { other = other }
 
+-- the same with the cause of a cancel (rules 16)
 abbrev pub with_cause : Fields → Cause → Fields
-with_cause x c = record { kind = x.kind; number = x.number; other = x.other; price = x.price; lots = x.lots; cause = cause_number c }
+with_cause fields cause = record fields { cause = cause_number cause }
 
--- 'A', 'R', 'S', 'T', 'C'
+-- the fields of a line of the tape (rules 16)
 abbrev pub fields : Line → Fields
-fields (Accepted n limit quantity) = of_one 65 n (price_of limit) quantity
-fields (Replaced n limit quantity) = of_one 82 n limit quantity
-fields (Triggered n limit lots) = of_one 83 n limit lots
-fields (Traded incoming resting price lots) = with_other (of_one 84 incoming price lots) resting
-fields (Cancelled n limit lots cause) = with_cause (of_one 67 n (price_of limit) lots) cause
+fields (Accepted number limit quantity) = for_order ACCEPTED number (price_of limit) quantity
+fields (Replaced number limit quantity) = for_order REPLACED number limit quantity
+fields (Triggered number limit lots) = for_order TRIGGERED number limit lots
+fields (Traded incoming resting price lots) =
+    with_other (for_order TRADED incoming price lots) resting
+fields (Cancelled number limit lots cause) =
+    with_cause (for_order CANCELLED number (price_of limit) lots) cause
 
--- kind, number, other, price, lots, cause
+-- kind, number, other, price, lots, cause (rules 16, 17)
 abbrev pub fields_text : Fields → List ℕ
-fields_text x =
-    encode_utf8 x.kind ++ (codes " " ++ (decimal x.number ++ (codes " " ++ (decimal x.other ++ (codes " "
-    ++ (price_text x.price.hundredths ++ (codes " " ++ (decimal x.lots ++ (codes " " ++ decimal x.cause)))))))))
+fields_text line =
+    encode_utf8 line.kind ++ (codes " " ++ (decimal line.number ++ (codes " " ++ (decimal line.other
+    ++ (codes " " ++ (price_text line.price.hundredths ++ (codes " " ++ (decimal line.lots
+    ++ (codes " " ++ decimal line.cause)))))))))
 
--- number, cell, place
+-- number, cell, place (rules 17)
 abbrev pub answer_text : Reply → List ℕ
-answer_text r = decimal r.number ++ (codes " " ++ (decimal r.cell ++ (codes " " ++ decimal r.place)))
+answer_text reply =
+    decimal reply.number
+    ++ (codes " " ++ (decimal reply.cell ++ (codes " " ++ decimal reply.place)))
 
+-- `reply`, the row, and the answer to it (rules 17)
 abbrev pub reply_text : Reply → List ℕ
-reply_text r = codes "reply " ++ (decimal r.row ++ (codes " " ++ answer_text r))
+reply_text reply = codes "reply " ++ (decimal reply.row ++ (codes " " ++ answer_text reply))
 
+-- the printed name of a queue of orders, by its side (rules 17)
 abbrev pub side_text : Side → List ℕ
 side_text Buy = codes "bid"
 side_text Sell = codes "offer"
 
--- an order that stands: its side, number, price, and its shown and open lots
+-- a standing order: its queue, number, price, shown lots and open lots (rules 17)
 abbrev pub standing_text : Order → List ℕ
-standing_text o =
-    side_text o.side ++ (codes " " ++ (decimal o.number ++ (codes " " ++ (price_text o.price.hundredths
-    ++ (codes " " ++ (decimal o.shown ++ (codes " " ++ decimal o.open_lots)))))))
+standing_text order =
+    side_text order.side ++ (codes " " ++ (decimal order.number
+    ++ (codes " " ++ (price_text order.price.hundredths
+    ++ (codes " " ++ (decimal order.shown ++ (codes " " ++ decimal order.open_lots)))))))

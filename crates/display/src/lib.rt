@@ -1,4 +1,4 @@
-// How what a venue says is printed.
+// The printed text of prices, lines of the tape, replies and standing orders.
 #![tactic(auto)]
 
 pub mod text;

@@ -1,6 +1,6 @@
-// How prices, lines of the tape, replies and standing orders print.
+// Prices, lines of the tape, replies and standing orders as text.
 ghost use Rattle.std.specs.Prelude.{◌≡◌, Some};
-ghost use Rattle.display.specs.PrintedTexts.{price_text, price_of, of_one, with_other, with_cause, fields, fields_text, answer_text, reply_text, side_text, standing_text};
+ghost use Rattle.display.specs.PrintedTexts.{price_text, price_of, for_order, with_other, with_cause, fields, fields_text, answer_text, reply_text, side_text, standing_text};
 
 use orders::order::Order;
 use orders::price::Price;
@@ -10,7 +10,18 @@ use std::fmt;
 use tapes::cause::Cause;
 use tapes::line::Line;
 
-// A price, as 0,05 and 20,00. Digit by digit, as the definition writes it.
+// The printed kinds of the lines.
+const ACCEPTED: char = 'A';
+
+const REPLACED: char = 'R';
+
+const TRIGGERED: char = 'S';
+
+const TRADED: char = 'T';
+
+const CANCELLED: char = 'C';
+
+/// A price with a comma and two digits, as 0,05 and 20,00.
 #[derive(Clone, Copy)]
 pub struct PriceText(pub Price);
 
@@ -25,7 +36,8 @@ impl fmt::Display for PriceText {
     }
 }
 
-// A line by its fields: kind, number, other, price, lots, cause, and 0 where unused.
+/// A line by its six fields with a space between: kind, number, other, price, lots, cause; an
+/// unused field is 0, a price 0,00.
 #[derive(Clone, Copy)]
 pub struct LineText(pub Line);
 
@@ -46,7 +58,7 @@ impl fmt::Display for LineText {
     }
 }
 
-// Numbers, 0 where unused: the published fields of a line.
+// The fields of a line of the tape, 0 where unused.
 #[derive(Clone, Copy)]
 struct Fields {
     kind: char,
@@ -58,9 +70,9 @@ struct Fields {
 }
 
 impl Fields {
-    // The fields of a line that has no other order and no cause.
-    fn of_one(kind: char, number: u32, price: Price, lots: u32) -> Fields
-        ensures { result ≡ of_one kind number price lots }
+    // A line that names one order and no cause.
+    fn for_order(kind: char, number: u32, price: Price, lots: u32) -> Fields
+        ensures { result ≡ for_order kind number price lots }
     {
         Fields {
             kind,
@@ -72,12 +84,14 @@ impl Fields {
         }
     }
 
+    // The same with the resting order of a trade.
     fn with_other(self, other: u32) -> Fields
         ensures { result ≡ with_other self other }
     {
         Fields { other, ..self }
     }
 
+    // The same with the cause of a cancel.
     fn with_cause(self, cause: Cause) -> Fields
         ensures { result ≡ with_cause self cause }
     {
@@ -97,29 +111,29 @@ impl From<Line> for Fields {
                 number,
                 limit,
                 quantity,
-            } => Fields::of_one('A', number, price_of(limit), quantity),
+            } => Fields::for_order(ACCEPTED, number, price_of(limit), quantity),
             Line::Replaced {
                 number,
                 limit,
                 quantity,
-            } => Fields::of_one('R', number, limit, quantity),
+            } => Fields::for_order(REPLACED, number, limit, quantity),
             Line::Triggered {
                 number,
                 limit,
                 lots,
-            } => Fields::of_one('S', number, limit, lots),
+            } => Fields::for_order(TRIGGERED, number, limit, lots),
             Line::Traded {
                 incoming,
                 resting,
                 price,
                 lots,
-            } => Fields::of_one('T', incoming, price, lots).with_other(resting),
+            } => Fields::for_order(TRADED, incoming, price, lots).with_other(resting),
             Line::Cancelled {
                 number,
                 limit,
                 lots,
                 cause,
-            } => Fields::of_one('C', number, price_of(limit), lots).with_cause(cause),
+            } => Fields::for_order(CANCELLED, number, price_of(limit), lots).with_cause(cause),
         }
     }
 }
@@ -131,7 +145,7 @@ fn price_of(limit: Option<Price>) -> Price
     limit.unwrap_or(Price { hundredths: 0 })
 }
 
-// What a row is answered: number, cell, place.
+/// The answer to a row: number, cell, place.
 #[derive(Clone, Copy)]
 pub struct AnswerText(pub Reply);
 
@@ -149,7 +163,7 @@ impl fmt::Display for AnswerText {
     }
 }
 
-// A reply with the row that it answers.
+/// A reply: `reply`, the row, and the answer to it.
 #[derive(Clone, Copy)]
 pub struct ReplyText(pub Reply);
 
@@ -163,7 +177,7 @@ impl fmt::Display for ReplyText {
     }
 }
 
-// The name of a queue's side, not of a side as such: so no Display of Side.
+// The printed name of a queue of orders, by its side.
 fn side_text(side: Side) -> &'static str
     ensures { result.now ≡ side_text side }
 {
@@ -173,7 +187,7 @@ fn side_text(side: Side) -> &'static str
     }
 }
 
-// An order that stands: its side, number, price, and its shown and open lots.
+/// A standing order: `bid` or `offer`, number, price, shown lots and open lots.
 #[derive(Clone, Copy)]
 pub struct StandingText(pub Order);
 
