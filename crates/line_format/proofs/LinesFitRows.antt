@@ -41,7 +41,7 @@ written_small k bs =
     subst (λ (ds : List ℕ). digits_value 10 ds < 10 ^ k) same
     (short (take (digits k bs) (take k bs)) k (front_digits (take k bs)) (omega (arith, length-take (digits k bs) (take k bs))))
 
--- what is read as a number, or as a price, has room
+-- what is read as a number, or as a price, has room in its cell
 number_cases : (blank good : Bool) (n index : ℕ) → n < 1000000000000
     → value_fits (read_as Number (cond blank (Ok None) (cond good (Ok (Some n)) (Err index)))) ≡ true
 number_cases true good n index h = refl
@@ -100,7 +100,7 @@ value_small kind.TheVariants.OneByte bs = type_small bs
 value_small kind.TheVariants.Validity bs = validity_small bs
 value_small kind.TheVariants.Price bs = price_small bs
 
--- the cells stay so, word by word
+-- all cells have room for their values: at first, and after every word
 no_value : (n k : ℕ) → ◌≡◌ {A = Option Value} (get_or (replicate n None) k None) None
 no_value zero k = refl
 no_value (suc n) zero = refl
@@ -127,20 +127,20 @@ column_fit None value cells filled all e = cc
 column_fit (Some c) value cells filled all e =
     fill_fit c.index (get_or cells c.index None) (read_value c.kind value) cells filled all (value_small c.kind value) e
 
--- and so does what the words of a line leave
-abbrev GoodRest : (Values → Result Values BadWord) → Values → Type 0
-GoodRest rest end = (filled : Values) → AllFit filled → rest filled ≡ Ok end → AllFit end
+-- and so they have after the words of a line
+abbrev FitsAfter : (Values → Result Values BadWord) → Values → Type 0
+FitsAfter rest end = (filled : Values) → AllFit filled → rest filled ≡ Ok end → AllFit end
 
-go_fit : (o : Option Values) (w : Word) (rest : Values → Result Values BadWord) (end : Values)
-    → ((filled : Values) → o ≡ Some filled → AllFit filled) → GoodRest rest end → if_filled o w rest ≡ Ok end → AllFit end
-go_fit None w rest end h good e = cc
-go_fit (Some filled) w rest end h good e = good filled (h filled refl) e
+if_filled_fit : (o : Option Values) (w : Word) (rest : Values → Result Values BadWord) (end : Values)
+    → ((filled : Values) → o ≡ Some filled → AllFit filled) → FitsAfter rest end → if_filled o w rest ≡ Ok end → AllFit end
+if_filled_fit None w rest end h good e = cc
+if_filled_fit (Some filled) w rest end h good e = good filled (h filled refl) e
 
 word_fit : (t : Bool) (letter : Letter) (word : List ℕ) (w : Word) (cells end : Values) (rest : Values → Result Values BadWord)
-    → AllFit cells → GoodRest rest end → cond t (Ok cells) (if_filled (with_word letter cells word) w rest) ≡ Ok end → AllFit end
+    → AllFit cells → FitsAfter rest end → cond t (Ok cells) (if_filled (with_word letter cells word) w rest) ≡ Ok end → AllFit end
 word_fit true letter word w cells end rest all good e = let same : cells ≡ end = cc in subst AllFit same all
 word_fit false letter word w cells end rest all good e =
-    go_fit (with_word letter cells word) w rest end (λ filled f. column_fit _ _ cells filled all f) good e
+    if_filled_fit (with_word letter cells word) w rest end (λ filled f. column_fit _ _ cells filled all f) good e
 
 pub words_fit : (n : ℕ) (letter : Letter) (line : List ℕ) (at : ℕ) (cells end : Values) → AllFit cells → read_words n letter line at cells ≡ Ok end → AllFit end
 unfolding read_words

@@ -1,15 +1,15 @@
--- Lines and what they say.
+-- Worked lines: what is read of each (lines 1).
 use Rattle.std.specs.Prelude.{◌≡◌, ℕ, List, Some, None, Ok, Err, codes}
 use Rattle.forms.specs.declared.form.Form.{Form}
 use Rattle.forms.specs.declared.form.Form.TheVariants.{Entry, Change, Cancel, MassCancel, Closing, Opening}
 use Rattle.line_format.specs.Lines.{read_line}
 
 -- a line asks for a form
-abbrev pub Asks : List ℕ → Form → Type 0
+abbrev pub Asks : (line : List ℕ) → Form → Type 0
 Asks line form = read_line line ≡ Ok (Some form)
 
--- a line is refused for the word at a place, from 1, of a length
-abbrev pub Spoilt : List ℕ → ℕ → ℕ → Type 0
+-- a line is refused for the word that begins at a place, from 1, and has so many bytes
+abbrev pub Spoilt : (line : List ℕ) → (place length : ℕ) → Type 0
 Spoilt line place length = read_line line ≡ Err (record { place = place; length = length })
 
 pub record WorkedLines : Type 0 where
@@ -19,12 +19,17 @@ pub record WorkedLines : Type 0 where
   pub comment : read_line (codes "  # Z") ≡ Ok None
   pub closing : Asks (codes "Z") Closing
   pub opening : Asks (codes "O day=2") (Opening (record { day = Some 2 }))
-  pub cancel : Asks (codes "X firm=12 number=3") (Cancel (record { firm = Some 12; number = Some 3 }))
+  pub cancel : Asks (codes "X firm=12 number=3")
+      (Cancel (record { firm = Some 12; number = Some 3 }))
   pub blank_cell : Asks (codes "X number=3") (Cancel (record { firm = None; number = Some 3 }))
-  pub any_order : Asks (codes " X  number=003   firm=12# late") (Cancel (record { firm = Some 12; number = Some 3 }))
-  pub tabs_between : Asks (codes "X\tfirm=12\t number=3\r") (Cancel (record { firm = Some 12; number = Some 3 }))
-  pub out_of_range : Asks (codes "X firm=999999999999") (Cancel (record { firm = Some 999999999999; number = None }))
-  pub words_for_sides : Asks (codes "A firm=1 side=sell tag=0") (MassCancel (record { firm = Some 1; side = Some 2; tag = Some 0; investor = None }))
+  pub any_order : Asks (codes " X  number=003   firm=12# late")
+      (Cancel (record { firm = Some 12; number = Some 3 }))
+  pub tabs_between : Asks (codes "X\tfirm=12\t number=3\r")
+      (Cancel (record { firm = Some 12; number = Some 3 }))
+  pub out_of_range : Asks (codes "X firm=999999999999")
+      (Cancel (record { firm = Some 999999999999; number = None }))
+  pub words_for_sides : Asks (codes "A firm=1 side=sell tag=0")
+      (MassCancel (record { firm = Some 1; side = Some 2; tag = Some 0; investor = None }))
   pub change : Asks (codes "M number=7 price=0,05 validity=gtc") (Change (record {
     firm = None;
     client = None;
@@ -34,20 +39,21 @@ pub record WorkedLines : Type 0 where
     disclosed = None;
     validity = Some 1;
   }))
-  pub entry : Asks (codes "E firm=12 client=7 side=buy type=2 validity=day price=20,00 quantity=200") (Entry (record {
-    firm = Some 12;
-    client = Some 7;
-    side = Some 1;
-    order_type = Some 50;
-    validity = Some 0;
-    price = Some (record { hundredths = 2000 });
-    trigger = None;
-    quantity = Some 200;
-    disclosed = None;
-    minimum = None;
-    investor = None;
-    tag = None;
-  }))
+  pub entry : Asks (codes "E firm=12 client=7 side=buy type=2 validity=day price=20,00 quantity=200")
+      (Entry (record {
+        firm = Some 12;
+        client = Some 7;
+        side = Some 1;
+        order_type = Some 50;
+        validity = Some 0;
+        price = Some (record { hundredths = 2000 });
+        trigger = None;
+        quantity = Some 200;
+        disclosed = None;
+        minimum = None;
+        investor = None;
+        tag = None;
+      }))
   pub unknown_letter : Spoilt (codes " Y firm=12") 2 1
   pub long_letter : Spoilt (codes "XX firm=12") 1 2
   pub unknown_name : Spoilt (codes "X firm=12 side=1") 11 6

@@ -7,19 +7,21 @@ use crate::columns::column_of;
 use crate::values::{Value, read_value};
 use crate::words::ByteRun;
 use sheets::bytes::{bytes_from, part_of};
-use sheets::letter::Letter;
+use sheets::letter::{Letter, MOST_CELLS};
 
-// No letter has more than twelve cells.
+// As many cells as any letter has, in the order of its columns; blank where no word named them.
 #[derive(Clone, Copy)]
 pub(crate) struct Cells {
-    values: [Option<Value>; 12],
+    values: [Option<Value>; MOST_CELLS],
 }
 
 impl Cells {
     pub(crate) fn blank() -> Cells
         ensures { result.values ≡ blank_cells }
     {
-        Cells { values: [None; 12] }
+        Cells {
+            values: [None; MOST_CELLS],
+        }
     }
 
     pub(crate) fn at(self, index: usize) -> Option<Value>
@@ -28,9 +30,11 @@ impl Cells {
         self.values.get(index).copied().flatten()
     }
 
-    // A word fills the cell that it names, unless it is filled or the value cannot be read.
+    // The cells with that filled which a word names; none where the word has no name of the
+    // letter's, names a cell that is filled already, or has a value that cannot be read.
     pub(crate) fn with_word(mut self, letter: Letter, word: &[u8]) -> Option<Cells>
-        ensures { option_map (λ c. c.values) result ≡ with_word letter self.values word.now }
+        ensures { option_map (λ cells. cells.values) result
+            ≡ with_word letter self.values word.now }
     {
         let name = ByteRun::Name.count(word);
         let column = column_of(letter, part_of(word, 0, name))?;

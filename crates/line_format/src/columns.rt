@@ -1,11 +1,11 @@
-// The columns of each letter: the cells of its rows, by name.
+// Columns: the cells of a letter's rows by name.
 ghost use Rattle.std.specs.Prelude.{◌≡◌, ◌<◌, map, position, IfSome};
 ghost use Rattle.std.specs.Str.{bytes_eq};
 ghost use Rattle.line_format.specs.Columns.{columns, column_of, letter_word};
 
-use sheets::letter::Letter;
+use sheets::letter::{Letter, MOST_CELLS};
 
-// How the value of a cell is written. By kind, not by a closure: the definitions name each kind.
+// How the value of a cell is written.
 #[derive(Clone, Copy)]
 pub(crate) enum CellKind {
     Number,
@@ -15,14 +15,14 @@ pub(crate) enum CellKind {
     Price,
 }
 
-// A cell of a letter's rows: its place, from 0, and how it is written.
+// A column: the place of its cell in the row, from 0, and how the value is written.
 #[derive(Clone, Copy)]
 pub(crate) struct Column {
     pub(crate) index: usize,
     pub(crate) kind: CellKind,
 }
 
-const ENTRY: [(&[u8], CellKind); 12] = [
+const ENTRY: [(&[u8], CellKind); MOST_CELLS] = [
     (b"firm", CellKind::Number),
     (b"client", CellKind::Number),
     (b"side", CellKind::Side),
@@ -58,7 +58,7 @@ const MASS_CANCEL: [(&[u8], CellKind); 4] = [
 
 const OPENING: [(&[u8], CellKind); 1] = [(b"day", CellKind::Number)];
 
-// The cells of a letter's rows in their order: the name, and how the value is written.
+// The columns of a letter in the order of its cells: the name, and how the value is written.
 fn columns(letter: Letter) -> &'static [(&'static [u8], CellKind)]
     ensures { map (λ c. (c.0.now, c.1)) result.now ≡ columns letter }
 {
@@ -72,17 +72,17 @@ fn columns(letter: Letter) -> &'static [(&'static [u8], CellKind)]
     }
 }
 
-// The place of a name among the columns.
+// The place of a name among columns.
 fn place_of(columns: &[(&[u8], CellKind)], name: &[u8]) -> Option<usize>
     ensures { result ≡ position (λ c. bytes_eq name.now c.0.now) columns.now }
 {
     columns.iter().position(|c| name == c.0)
 }
 
-// The column of a name.
+// The column of a name; none where the letter has no such cell.
 pub(crate) fn column_of(letter: Letter, name: &[u8]) -> Option<Column>
     ensures answer { result ≡ column_of letter name.now }
-    ensures within { IfSome result (λ c. c.index < 12) }
+    ensures within { IfSome result (λ column. column.index < MOST_CELLS) }
 {
     let columns = columns(letter);
     let index = place_of(columns, name)?;
@@ -90,7 +90,7 @@ pub(crate) fn column_of(letter: Letter, name: &[u8]) -> Option<Column>
     Some(Column { index, kind })
 }
 
-// The letter that a line begins with.
+// The letter that a word is, where it is one byte that is a letter.
 pub(crate) fn letter_word(word: &[u8]) -> Option<Letter>
     ensures { result ≡ letter_word word.now }
 {

@@ -9,7 +9,7 @@ use orders::price::Price;
 use sheets::letter::Letter;
 
 impl Cells {
-    // One for each kind of value: a trait with an impl for u64, u8 and Price is longer than these three.
+    // The number in a cell, where it has one.
     fn number(self, index: usize) -> Option<u64>
         ensures { result ≡ cell_number (slice_index_or self.values index None) }
     {
@@ -19,6 +19,7 @@ impl Cells {
         }
     }
 
+    // The byte in a cell, where it has one.
     fn byte(self, index: usize) -> Option<u8>
         ensures { result ≡ cell_byte (slice_index_or self.values index None) }
     {
@@ -28,6 +29,7 @@ impl Cells {
         }
     }
 
+    // The price in a cell, where it has one.
     fn price(self, index: usize) -> Option<Price>
         ensures { result ≡ cell_price (slice_index_or self.values index None) }
     {
@@ -37,7 +39,7 @@ impl Cells {
         }
     }
 
-    // Form by form and cell by cell, as the reader of sheets does: there each cell may be refused, here none is.
+    // The cells in the order of an entry's columns.
     fn entry(self) -> EntryForm
         ensures { result ≡ entry_form self.values }
     {
@@ -57,6 +59,7 @@ impl Cells {
         }
     }
 
+    // The cells in the order of a change's columns.
     fn change(self) -> ChangeForm
         ensures { result ≡ change_form self.values }
     {
@@ -71,6 +74,7 @@ impl Cells {
         }
     }
 
+    // The cells in the order of a cancel's columns.
     fn cancel(self) -> CancelForm
         ensures { result ≡ cancel_form self.values }
     {
@@ -80,6 +84,7 @@ impl Cells {
         }
     }
 
+    // The cells in the order of a mass cancel's columns.
     fn mass_cancel(self) -> MassCancelForm
         ensures { result ≡ mass_cancel_form self.values }
     {
@@ -91,6 +96,7 @@ impl Cells {
         }
     }
 
+    // The cell of an opening.
     fn opening(self) -> OpeningForm
         ensures { result ≡ opening_form self.values }
     {
@@ -99,7 +105,7 @@ impl Cells {
         }
     }
 
-    // What the cells ask for under a letter.
+    // The form of a letter's cells.
     pub(crate) fn form(self, letter: Letter) -> Form
         ensures { result ≡ form_of letter self.values }
     {

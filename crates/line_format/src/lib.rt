@@ -1,4 +1,5 @@
-// A row of an order sheet as a line of text: the letter, then cells by name, as `X firm=12 number=3`.
+// Reads a row of a sheet that is written as a line of text: the letter, then cells by name, as `X
+// firm=12 number=3`.
 #![tactic(auto)]
 
 mod cells;

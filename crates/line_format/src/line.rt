@@ -1,8 +1,7 @@
-// A whole line.
-ghost use Rattle.std.specs.Prelude.{◌≡◌, ◌≤◌, length, true, IfOk, IfErr, IfSome, Ok, Err, MatchResult};
+// Whole lines.
+ghost use Rattle.std.specs.Prelude.{◌≡◌, ◌≤◌, length, true, IfOk, IfErr, IfSome, Ok, Err};
 ghost use Rattle.sheets.specs.FormBounds.{form_in_bounds};
-ghost use Rattle.line_format.specs.LineCells.{blank_cells};
-ghost use Rattle.line_format.specs.Lines.{read_words, read_line};
+ghost use Rattle.line_format.specs.Lines.{cells_from, read_line};
 ghost use Rattle.line_format.specs.Words.{InsideLine};
 ghost use Rattle.line_format.specs.WorkedLines.{WorkedLines};
 
@@ -12,10 +11,11 @@ use crate::words::{BadWord, next_word};
 use forms::form::Form;
 use sheets::letter::Letter;
 
-// Fills cells by the words from a place on, as the definition reads them: so no iterator over words.
+// The cells that the words from a place on fill, or the word that the line is refused for.
 fn read_words(letter: Letter, line: &[u8], from: usize) -> Result<Cells, BadWord>
     requires { from ≤ length line.now }
-    ensures answer { MatchResult result (λ c. read_words (length line.now) letter line.now from blank_cells ≡ Ok c.values) (λ e. read_words (length line.now) letter line.now from blank_cells ≡ Err e) }
+    ensures ok { IfOk result (λ cells. cells_from letter line.now from ≡ Ok cells.values) }
+    ensures err { IfErr result (λ word. cells_from letter line.now from ≡ Err word) }
     ensures within { IfErr result (InsideLine (length line.now)) }
 {
     let mut cells = Cells::blank();
@@ -29,7 +29,8 @@ fn read_words(letter: Letter, line: &[u8], from: usize) -> Result<Cells, BadWord
     Ok(cells)
 }
 
-// The form that a line asks for, whose values have room in a row; none where it has no words; or the word that spoils it.
+/// The form that a line asks for, whose values have room in the cells of a row; none where it has
+/// no words; or the word that it is refused for (docs/LINES.md, section 1).
 pub fn read_line(line: &[u8]) -> Result<Option<Form>, BadWord>
     ensures answer { result ≡ read_line line.now }
     ensures within { IfErr result (InsideLine (length line.now)) }
@@ -43,7 +44,7 @@ pub fn read_line(line: &[u8]) -> Result<Option<Form>, BadWord>
     Ok(Some(cells.form(letter)))
 }
 
-// The worked lines are read as they say.
+/// The worked lines of specs/WorkedLines.antt read as it says. It does nothing when it runs.
 #[tactic(auto, unfolding(crate::specs::Lines::read_words))]
 pub fn worked_lines()
     ensures { WorkedLines }

@@ -1,4 +1,4 @@
-// The value of a cell, by how it is written.
+// Values, as the cells of a line have them behind the `=`.
 ghost use Rattle.std.specs.Prelude.{◌≡◌};
 ghost use Rattle.line_format.specs.Values.{side_word, validity_word, number_value, worded, read_value};
 
@@ -6,6 +6,7 @@ use crate::columns::CellKind;
 use orders::price::Price;
 use sheets::cells::{read_number, read_price, read_type};
 
+// The value of a cell, by its kind.
 #[derive(Clone, Copy)]
 pub(crate) enum Value {
     Number(u64),
@@ -13,7 +14,7 @@ pub(crate) enum Value {
     Price(Price),
 }
 
-// The published number that the cell of a sheet has for the word; the step reads it later.
+// The number of a side that is written as a word.
 fn side_word(bytes: &[u8]) -> Option<u64>
     ensures { result ≡ side_word bytes.now }
 {
@@ -24,6 +25,7 @@ fn side_word(bytes: &[u8]) -> Option<u64>
     }
 }
 
+// The number of a validity that is written as a word.
 fn validity_word(bytes: &[u8]) -> Option<u64>
     ensures { result ≡ validity_word bytes.now }
 {
@@ -36,19 +38,21 @@ fn validity_word(bytes: &[u8]) -> Option<u64>
     }
 }
 
+// A number, read as a number cell is.
 fn number_value(bytes: &[u8]) -> Option<Value>
     ensures { result ≡ number_value bytes.now }
 {
     read_number(bytes).ok().flatten().map(Value::Number)
 }
 
-// What a word stands for, or else what the number says.
+// The number that a word stands for, or else the number that is written.
 fn worded(word: Option<u64>, bytes: &[u8]) -> Option<Value>
     ensures { result ≡ worded word bytes.now }
 {
     word.map(Value::Number).or_else(|| number_value(bytes))
 }
 
+// A value of a kind; none where it is empty or cannot be read.
 pub(crate) fn read_value(kind: CellKind, bytes: &[u8]) -> Option<Value>
     ensures { result ≡ read_value kind bytes.now }
 {

@@ -1,12 +1,25 @@
 // The words of a line: runs of bytes with blanks between, up to a comment.
-ghost use Rattle.std.specs.Prelude.{◌≡◌, ◌+◌, ◌<◌, ◌≤◌, length, IfSome, MatchOption};
+ghost use Rattle.std.specs.Prelude.{◌≡◌, ◌+◌, ◌<◌, ◌≤◌, length, IfSome, IfNone};
 ghost use Rattle.std.specs.List.{prefix_len};
 ghost use Rattle.sheets.specs.Layout.{part};
-ghost use Rattle.line_format.specs.Words.{is_space, takes, next_word, bad_word};
+ghost use Rattle.line_format.specs.Words.{is_space, takes, next_word, bad_word, WordInLine};
 
 use sheets::bytes::{bytes_from, part_of};
 
-// What a run of bytes is made of. By kind, not by a closure: the definitions name each run.
+// What blanks are made of.
+const SPACE: u8 = b' ';
+
+const TAB: u8 = b'\t';
+
+const RETURN: u8 = b'\r';
+
+// The byte that begins a comment.
+const HASH: u8 = b'#';
+
+// The byte between a name and its value.
+const EQUALS: u8 = b'=';
+
+// Runs of bytes: the blanks before a word, a word, the name of a word.
 #[derive(Clone, Copy)]
 pub(crate) enum ByteRun {
     Blanks,
@@ -14,14 +27,15 @@ pub(crate) enum ByteRun {
     Name,
 }
 
-// Where a word lies in its line. Start and size, not a slice: the definitions name a word by its place and size.
+// A word: where it starts in its line, from 0, and how many bytes it has.
 #[derive(Clone, Copy)]
 pub(crate) struct Word {
     pub(crate) start: usize,
     pub(crate) size: usize,
 }
 
-// The word that spoils a line: its place, from 1, and its length.
+/// The word that a line is refused for: where it begins in the line, from 1, and how many bytes it
+/// has.
 #[derive(Clone, Copy)]
 pub struct BadWord {
     pub place: usize,
@@ -32,17 +46,18 @@ pub struct BadWord {
 fn is_space(b: u8) -> bool
     ensures { result ≡ is_space b }
 {
-    b == b' ' || b == b'\t' || b == b'\r'
+    b == SPACE || b == TAB || b == RETURN
 }
 
 impl ByteRun {
+    // Whether the run takes a byte.
     fn takes(self, b: u8) -> bool
         ensures { result ≡ takes self b }
     {
         match self {
             ByteRun::Blanks => is_space(b),
-            ByteRun::Word => !is_space(b) && b != b'#',
-            ByteRun::Name => b != b'=',
+            ByteRun::Word => !is_space(b) && b != HASH,
+            ByteRun::Name => b != EQUALS,
         }
     }
 
@@ -55,7 +70,8 @@ impl ByteRun {
     }
 }
 
-// The word behind the blanks at a place of the line; it has no bytes at the end and at a comment.
+// The word that follows the blanks at a place of the line. It has no bytes at the end of the line,
+// and at a comment.
 fn word_behind(line: &[u8], at: usize) -> Word
     requires { at ≤ length line.now }
     ensures answer { result ≡ next_word line.now at }
@@ -66,17 +82,19 @@ fn word_behind(line: &[u8], at: usize) -> Word
     Word { start, size }
 }
 
-// The word that comes next from a place of the line; none at its end and at a comment.
+// The next word from a place of the line on; none at the end of the line, and at a comment.
 pub(crate) fn next_word(line: &[u8], at: usize) -> Option<Word>
     requires { at ≤ length line.now }
-    ensures answer { MatchOption result ((next_word line.now at).size ≡ 0) (λ w. w ≡ next_word line.now at) }
-    ensures within { IfSome result (λ w. (1 ≤ w.size) × (w.start + w.size ≤ length line.now)) }
+    ensures some { IfSome result (λ word. word ≡ next_word line.now at) }
+    ensures none { IfNone result ((next_word line.now at).size ≡ 0) }
+    ensures within { IfSome result (WordInLine (length line.now)) }
 {
     let word = word_behind(line, at);
     (word.size > 0).then_some(word)
 }
 
-// Where the first word of a line lies; its length is 0 where the line has no words.
+/// The first word of a line as the one that it is refused for; its length is 0 where the line has
+/// no words.
 pub fn first_word(line: &[u8]) -> BadWord
     ensures answer { result ≡ bad_word (next_word line.now 0) }
     ensures within { result.place + result.length ≤ length line.now + 1 }
@@ -85,13 +103,14 @@ pub fn first_word(line: &[u8]) -> BadWord
 }
 
 impl Word {
+    // The bytes of the word.
     pub(crate) fn bytes(self, line: &[u8]) -> &[u8]
         ensures { result.now ≡ part line.now self.start self.size }
     {
         part_of(line, self.start, self.size)
     }
 
-    // What is said of a word that spoils its line. Not a `From`, which could not ask that the place fits.
+    // The word as the one that its line is refused for.
     pub(crate) fn spoils(self) -> BadWord
         requires { self.start < usize.MAX }
         ensures { result ≡ bad_word self }

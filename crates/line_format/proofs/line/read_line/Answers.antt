@@ -8,4 +8,4 @@ returns-clause-form_in_bounds c =
     let line = c.args.line.now in
     let letter = c.in_ok-letter.letter in
     rw c.form.ensures (form_fits letter c.in_ok-cells.cells.values
-    (words_fit (length line) letter line (c.in-Some.first.start + c.in-Some.first.size) blank_cells c.in_ok-cells.cells.values blank_fit c.in_ok-cells.ensures.answer))
+    (words_fit (length line) letter line (c.in-Some.first.start + c.in-Some.first.size) blank_cells c.in_ok-cells.cells.values blank_fit c.in_ok-cells.ensures.ok))
