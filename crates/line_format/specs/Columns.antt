@@ -8,8 +8,8 @@ use Rattle.line_format.specs.declared.columns.Column.{Column}
 use Rattle.line_format.specs.declared.columns.CellKind.{CellKind}
 use Rattle.line_format.specs.declared.columns.CellKind.TheVariants.{Number, Side, OneByte, Validity, Price}
 
--- the columns of a letter in the order of its cells: the name, and how the value is written (lines
--- 1)
+-- the columns of a letter in the order of its cells: the name, and how the value is written
+-- (lines 1)
 abbrev pub columns : Letter → List (List ℕ × CellKind)
 columns Entry =
     (codes "firm", Number) ∷ (codes "client", Number) ∷ (codes "side", Side)

@@ -20,8 +20,8 @@ pub record SheetRun : Type 0 where
 abbrev pub sheet_run : State → Replies → SheetRun
 sheet_run venue replies = record { venue = venue; replies = posted replies; room = replies.limit }
 
--- the answer to a row: a row that cannot be read is refused, one that can asks for its step (sheets
--- 6)
+-- the answer to a row: a row that cannot be read is refused, one that can asks for its step
+-- (sheets 6)
 abbrev pub row_answer : Result Form Refusal → State → Result (Unit {0}) Refusal
 row_answer (Err refusal) venue = Err refusal
 row_answer (Ok form) venue = answer form venue

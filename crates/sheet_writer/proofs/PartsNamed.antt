@@ -8,8 +8,9 @@ use Rattle.sheets.specs.declared.directory.Directory.{Directory}
 use Rattle.sheets.specs.declared.directory.Directory.TheVariants.{Rows, Cells}
 use Rattle.sheet_writer.specs.PackedParts.{number_bytes, pairs, packed}
 
--- the pairs of some parts begin at pair j, and the parts themselves, which end the bytes, at a place
-pub record Lies (d : Directory) (bs : List ℕ) (j at : ℕ) (parts : List (List ℕ)) : Type 0 where
+-- pair j of a directory is the first of those of some parts; the parts are the last bytes, from a
+-- place on
+pub record PartsFrom (d : Directory) (bs : List ℕ) (j at : ℕ) (parts : List (List ℕ)) : Type 0 where
   pub before : List ℕ
   pub behind : List ℕ
   pub named : bs ≡ before ++ (pairs d at (map length parts) ++ behind)
@@ -22,8 +23,8 @@ pub record Lies (d : Directory) (bs : List ℕ) (j at : ℕ) (parts : List (List
 byte_behind : (bs before rest : List ℕ) (i k : ℕ) → bs ≡ before ++ rest → i ≡ length before + k → get_or bs i 0 ≡ get_or rest k 0
 byte_behind bs before rest i k e h = rw (e, h) (get_or-append-add before rest k 0)
 
--- pair j tells place and length of the first part
-first_named : (d : Directory) (bs : List ℕ) (j at : ℕ) (p : List ℕ) (ps : List (List ℕ)) → Lies d bs j at (p ∷ ps)
+-- pair j has the place and the length of the first part
+first_named : (d : Directory) (bs : List ℕ) (j at : ℕ) (p : List ℕ) (ps : List (List ℕ)) → PartsFrom d bs j at (p ∷ ps)
     → (offset_at d bs j ≡ at) × (length_at d bs j ≡ length p)
 first_named Rows bs j at p ps l =
     let a = byte_behind bs l.before _ (4 * j + 2) 0 l.named (omega (arith, l.from)) in
@@ -35,12 +36,12 @@ first_named Cells bs j at p ps l =
     (byte_behind bs l.before _ (2 * j + 2) 0 l.named (omega (arith, l.from)), byte_behind bs l.before _ (2 * j + 3) 1 l.named (omega (arith, l.from)))
 
 -- and the part there is the first part, which ends inside
-first_part : (d : Directory) (bs : List ℕ) (j at : ℕ) (p : List ℕ) (ps : List (List ℕ)) → Lies d bs j at (p ∷ ps) → part_at d bs j ≡ p
+first_part : (d : Directory) (bs : List ℕ) (j at : ℕ) (p : List ℕ) (ps : List (List ℕ)) → PartsFrom d bs j at (p ∷ ps) → part_at d bs j ≡ p
 first_part d bs j at p ps l =
     let n = first_named d bs j at p ps l in
     rw (n.0, n.1, l.there, drop_at l.front (p ++ concat ps) at l.place) (take_at p (concat ps) (length p) refl)
 
-first_placed : (d : Directory) (bs : List ℕ) (j at : ℕ) (p : List ℕ) (ps : List (List ℕ)) → Lies d bs j at (p ∷ ps)
+first_placed : (d : Directory) (bs : List ℕ) (j at : ℕ) (p : List ℕ) (ps : List (List ℕ)) → PartsFrom d bs j at (p ∷ ps)
     → pair_end d bs j at ≡ Some (at + length p)
 first_placed d bs j at p ps l =
     let n = first_named d bs j at p ps l in
@@ -53,9 +54,9 @@ pair_size : (d : Directory) (j a b : ℕ) → directory_end d j + length (number
 pair_size Rows j a b = omega arith
 pair_size Cells j a b = omega arith
 
--- the other parts lie at the next pair, behind the first part
-next : (d : Directory) (bs : List ℕ) (j at : ℕ) (p : List ℕ) (ps : List (List ℕ)) → Lies d bs j at (p ∷ ps)
-    → Lies d bs (j + 1) (at + length p) ps
+-- the other parts have the pairs from the next one on, and follow the first part
+next : (d : Directory) (bs : List ℕ) (j at : ℕ) (p : List ℕ) (ps : List (List ℕ)) → PartsFrom d bs j at (p ∷ ps)
+    → PartsFrom d bs (j + 1) (at + length p) ps
 next d bs j at p ps l = record {
   before = l.before ++ (number_bytes d at ++ number_bytes d (length p));
   behind = l.behind;
@@ -66,15 +67,15 @@ next d bs j at p ps l = record {
   place = omega (arith, length-append l.front p, l.place);
 }
 
--- so no pair is misplaced, and pair k tells part k
-none_misplaced : (d : Directory) (bs : List ℕ) (j at : ℕ) (parts : List (List ℕ)) → Lies d bs j at parts
+-- so no pair is misplaced, and pair k names part k
+none_misplaced : (d : Directory) (bs : List ℕ) (j at : ℕ) (parts : List (List ℕ)) → PartsFrom d bs j at parts
     → first_misplaced_from d bs (length parts) j at ≡ None
 none_misplaced d bs j at [] l = refl
 none_misplaced d bs j at (p ∷ ps) l =
     ap (λ (o : Option ℕ). elim o [ Some x ↦ first_misplaced_from d bs (length ps) (j + 1) x | None ↦ Some (j + 1) ]) (first_placed d bs j at p ps l)
     ∙ none_misplaced d bs (j + 1) (at + length p) ps (next d bs j at p ps l)
 
-each_part : (d : Directory) (bs : List ℕ) (j at : ℕ) (parts : List (List ℕ)) → Lies d bs j at parts
+each_part : (d : Directory) (bs : List ℕ) (j at : ℕ) (parts : List (List ℕ)) → PartsFrom d bs j at parts
     → (i k : ℕ) (x : List ℕ) → i ≡ j + k → slice_get parts k ≡ Some x → part_at d bs i ≡ x
 each_part d bs j at [] l i k x h e = cc
 each_part d bs j at (p ∷ ps) l i zero x h e =
@@ -98,8 +99,8 @@ begins Cells = refl
 
 -- all of it, of parts that are packed
 module _ (d : Directory) (head : List ℕ) (parts : List (List ℕ)) (two : length head ≡ 2) where
-  packed_lies : Lies d (packed d head parts) 0 (directory_end d (length (map length parts))) parts
-  packed_lies = record {
+  packed_from : PartsFrom d (packed d head parts) 0 (directory_end d (length (map length parts))) parts
+  packed_from = record {
     before = head;
     behind = concat parts;
     named = refl;
@@ -115,10 +116,10 @@ module _ (d : Directory) (head : List ℕ) (parts : List (List ℕ)) (two : leng
   pub packed_keeps : first_misplaced d (packed d head parts) (length parts) ≡ None
   packed_keeps =
       ap (λ (n : ℕ). first_misplaced_from d (packed d head parts) (length parts) 0 (directory_end d n)) (sym as_many)
-      ∙ none_misplaced d (packed d head parts) 0 _ parts packed_lies
+      ∙ none_misplaced d (packed d head parts) 0 _ parts packed_from
 
   pub packed_part : (k : ℕ) (x : List ℕ) → slice_get parts k ≡ Some x → part_at d (packed d head parts) k ≡ x
-  packed_part k x e = each_part d (packed d head parts) 0 _ parts packed_lies k k x (omega arith) e
+  packed_part k x e = each_part d (packed d head parts) 0 _ parts packed_from k k x (omega arith) e
 
   pub packed_size : length (packed d head parts) ≡ directory_end d (length parts) + length (concat parts)
   packed_size =

@@ -1,5 +1,6 @@
 pub mod CellTexts
 pub mod PackedParts
+pub mod PartLists
 pub mod WrittenRows
 pub mod Drafts
 pub mod WorkedSheet

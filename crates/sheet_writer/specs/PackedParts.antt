@@ -1,29 +1,35 @@
--- A directory and the parts that it names, without an unused byte.
+-- A directory and the parts that it names, without an unused byte (sheets 1, 2, 3).
 use Rattle.std.specs.Prelude.{ℕ, ◌+◌, ◌/◌, ◌%◌, List, [], ◌∷◌, ◌++◌, length, map}
 use Rattle.std.specs.List.{concat}
 use Rattle.sheets.specs.Layout.{directory_end}
 use Rattle.sheets.specs.declared.directory.Directory.{Directory}
 use Rattle.sheets.specs.declared.directory.Directory.TheVariants.{Rows, Cells}
+use Rattle.sheets.specs.declared.sheet.TheConstants.{MOST_BYTES}
+use Rattle.sheet_writer.specs.declared.packing.TheConstants.{MOST_ROW_BYTES}
 
--- a number in a directory: in a sheet two bytes, the high one first, in a row one
+-- a number in a directory: in a sheet two bytes, the high one first, in a row one (sheets 1, 3)
 abbrev pub number_bytes : Directory → ℕ → List ℕ
-number_bytes Rows n = n / 256 ∷ n % 256 ∷ []
-number_bytes Cells n = n ∷ []
+number_bytes Rows number = number / 256 ∷ number % 256 ∷ []
+number_bytes Cells number = number ∷ []
 
--- the pairs of parts of these lengths, of which the first starts at a place and each other where the one before it ends
-abbrev pub pairs : Directory → ℕ → List ℕ → List ℕ
-pairs d at [] = []
-pairs d at (n ∷ ns) = number_bytes d at ++ (number_bytes d n ++ pairs d (at + n) ns)
+-- the pairs of parts of these lengths, the first from a place on, and each other from where the one
+-- before it ends (sheets 2)
+abbrev pub pairs : Directory → (at : ℕ) → (lengths : List ℕ) → List ℕ
+pairs directory at [] = []
+pairs directory at (first ∷ rest) =
+    number_bytes directory at ++ (number_bytes directory first ++ pairs directory (at + first) rest)
 
--- a head, the pairs of parts of these lengths, and the bytes of all parts
-abbrev pub laid_out : Directory → List ℕ → List ℕ → List ℕ → List ℕ
-laid_out d head lengths bytes = head ++ (pairs d (directory_end d (length lengths)) lengths ++ bytes)
+-- a head, the pairs of parts of these lengths, and the bytes of all parts (sheets 1, 3)
+abbrev pub laid_out : Directory → (head lengths bytes : List ℕ) → List ℕ
+laid_out directory head lengths bytes =
+    head ++ (pairs directory (directory_end directory (length lengths)) lengths ++ bytes)
 
--- a head, the pairs of the parts, and the parts
-abbrev pub packed : Directory → List ℕ → List (List ℕ) → List ℕ
-packed d head parts = laid_out d head (map length parts) (concat parts)
+-- a head, the pairs of the parts, and the parts (sheets 1, 3)
+abbrev pub packed : Directory → (head : List ℕ) → (parts : List (List ℕ)) → List ℕ
+packed directory head parts = laid_out directory head (map length parts) (concat parts)
 
--- the most bytes that an offset of the directory reaches
+-- the most bytes that a sheet or a row may have, so that its directory can name each part
+-- (sheets 1, 3)
 abbrev pub most_bytes : Directory → ℕ
-most_bytes Rows = 65535
-most_bytes Cells = 255
+most_bytes Rows = MOST_BYTES
+most_bytes Cells = MOST_ROW_BYTES

@@ -1,12 +1,13 @@
-// The cells of a form's row, and the text of each.
+// The cells of a form's row, and the bytes that each is written as.
 ghost use Rattle.std.specs.Prelude.{◌≡◌, IfOk, vec_items};
 ghost use Rattle.sheet_writer.specs.CellTexts.{text, has_room};
 
 use display::text::PriceText;
 use orders::price::Price;
+use sheets::cells::{CELL_NUMBERS_END, CELL_PRICES_END};
 use std::alloc::{AllocError, Global};
 
-// A cell by its kind, with its value or blank.
+// A cell of a kind, with its value, or blank.
 #[derive(Clone, Copy)]
 pub(crate) enum Cell {
     Number(Option<u64>),
@@ -15,20 +16,20 @@ pub(crate) enum Cell {
 }
 
 impl Cell {
-    // Whether its value has no more digits than a cell may have.
+    // Whether the cell has room for its value.
     pub(crate) fn has_room(self) -> bool
         ensures { result ≡ has_room self }
     {
         match self {
-            Cell::Number(Some(n)) => n < 1_000_000_000_000,
-            Cell::Price(Some(p)) => p.hundredths < 100_000_000,
+            Cell::Number(Some(n)) => n < CELL_NUMBERS_END,
+            Cell::Price(Some(p)) => p.hundredths < CELL_PRICES_END,
             _ => true,
         }
     }
 
     // The bytes that the cell is written as.
     pub(crate) fn text(self, heap: Global) -> Result<Vec<u8>, AllocError>
-        ensures { IfOk result (λ v. vec_items v ≡ text self) }
+        ensures { IfOk result (λ bytes. vec_items bytes ≡ text self) }
     {
         match self {
             Cell::Number(Some(n)) => Ok(format!(in heap; "{n}")?.into_bytes()),

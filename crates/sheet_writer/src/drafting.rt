@@ -1,10 +1,8 @@
-// How a sheet grows by a form, and its bytes.
-ghost use Rattle.std.specs.Prelude.{◌≡◌, [], true, Ok, List, IfOk, MatchResult, map, vec_items};
-ghost use Rattle.std.specs.List.{list_all};
+// Drafts: forms are added, and the bytes of the sheet are written.
+ghost use Rattle.std.specs.Prelude.{◌≡◌, [], List, IfOk, OnErr, vec_items};
 ghost use Rattle.forms.specs.declared.form.Form.{Form};
-ghost use Rattle.sheets.specs.FormBounds.{form_in_bounds};
-ghost use Rattle.sheet_writer.specs.WrittenRows.{row_written, sheet_of, ReadsAs};
-ghost use Rattle.sheet_writer.specs.Drafts.{rows, joins, with_form};
+ghost use Rattle.sheet_writer.specs.WrittenRows.{sheet_of, ReadsAs};
+ghost use Rattle.sheet_writer.specs.Drafts.{rows, Joined, DraftHolds};
 
 use crate::draft::{Draft, Excess};
 use crate::parts::Parts;
@@ -15,7 +13,7 @@ use sheets::sheet::MOST_ROWS;
 use std::alloc::{AllocError, Global};
 
 impl Draft {
-    // A sheet without rows.
+    /// A draft without rows.
     pub fn new(heap: Global) -> Draft
         ensures { rows result ≡ [] }
     {
@@ -24,9 +22,12 @@ impl Draft {
         }
     }
 
-    // The row of one form more, unless it has no place.
+    /// Adds the row of a form, unless a value has no room in its cell, or the sheet would have too
+    /// many rows or bytes; these are looked for in this order. After either error the draft is as
+    /// it was.
     pub fn add(&mut self, heap: Global, form: Form) -> Result<Result<(), Excess>, AllocError>
-        ensures { MatchResult result (λ answer. (answer ≡ joins (rows self.old) form) × (rows self.new ≡ with_form (rows self.old) form)) (λ _. rows self.new ≡ rows self.old) }
+        ensures ok { IfOk result (Joined (rows self.old) form (rows self.new)) }
+        ensures err { OnErr result (rows self.new ≡ rows self.old) }
     {
         let Some(row) = write_row(heap, form)? else {
             return Ok(Err(Excess::Value));
@@ -41,10 +42,11 @@ impl Draft {
         Ok(Ok(()))
     }
 
-    // The bytes of the sheet: reading them gives the forms whose rows it has.
+    /// The bytes of the sheet. Read back, its rows are the forms that were added.
     pub fn bytes(&self, heap: Global) -> Result<Vec<u8>, AllocError>
-        ensures answer { IfOk result (λ v. vec_items v ≡ sheet_of (rows self.now)) }
-        ensures back { (forms : List Form) → rows self.now ≡ map row_written forms → list_all form_in_bounds forms ≡ true → IfOk result (λ v. ReadsAs forms (vec_items v)) }
+        ensures answer { IfOk result (λ bytes. vec_items bytes ≡ sheet_of (rows self.now)) }
+        ensures back { (forms : List Form) → DraftHolds self.now forms
+            → IfOk result (λ bytes. ReadsAs forms (vec_items bytes)) }
     {
         let count = self.rows.lengths.len();
         let head = [(count / 256) as u8, (count % 256) as u8];

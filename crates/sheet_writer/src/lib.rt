@@ -1,4 +1,4 @@
-// Writes forms as the bytes of rows and of a sheet.
+// Writes forms as rows, and rows as a sheet, byte by byte.
 #![tactic(auto)]
 
 mod cell;

@@ -1,27 +1,31 @@
-// How parts are packed behind their directory.
-ghost use Rattle.std.specs.Prelude.{◌≡◌, ◌+◌, ◌≤◌, [], ◌∷◌, ◌++◌, length, IfOk, OnOk, OnErr, nat_le, vec_items, vec_len};
-ghost use Rattle.sheets.specs.Layout.{directory_end};
-ghost use Rattle.sheet_writer.specs.PackedParts.{number_bytes, laid_out, most_bytes};
+// Parts are packed: the bytes of each follow those of the one before, and all follow the directory.
+ghost use Rattle.std.specs.Prelude.{◌≡◌, ◌≤◌, [], ◌++◌, IfOk, OnOk, OnErr, nat_le, vec_items};
+ghost use Rattle.sheet_writer.specs.PackedParts.{number_bytes, most_bytes};
+ghost use Rattle.sheet_writer.specs.PartLists.{size_with, PartAdded, SameParts, bytes_behind};
 
 use crate::parts::Parts;
 use sheets::directory::Directory;
 use sheets::sheet::MOST_BYTES;
 use std::alloc::{AllocError, Global};
 
-// The most bytes that a sheet or a row may have, so that each can be named.
+// The most bytes of a row, so that one byte gives an offset in it.
+const MOST_ROW_BYTES: usize = 255;
+
+// The most bytes that a sheet or a row may have, so that its directory can name each part.
 fn most_bytes(directory: Directory) -> usize
     ensures { result ≡ most_bytes directory }
 {
     match directory {
         Directory::Rows => MOST_BYTES,
-        Directory::Cells => 255,
+        Directory::Cells => MOST_ROW_BYTES,
     }
 }
 
-// A number of a directory.
+// Writes an offset or a length of a directory.
 fn write_number(directory: Directory, number: usize, bytes: &mut Vec<u8>) -> Result<(), AllocError>
     requires { number ≤ most_bytes directory }
-    ensures { OnOk result (vec_items bytes.new ≡ vec_items bytes.old ++ number_bytes directory number) }
+    ensures { let written = number_bytes directory number in
+        OnOk result (vec_items bytes.new ≡ vec_items bytes.old ++ written) }
 {
     match directory {
         Directory::Rows => {
@@ -32,9 +36,10 @@ fn write_number(directory: Directory, number: usize, bytes: &mut Vec<u8>) -> Res
 }
 
 impl Parts {
+    // No parts.
     pub(crate) fn none(heap: Global, directory: Directory) -> Parts
-        ensures named { result.directory ≡ directory }
-        ensures none { (vec_items result.lengths ≡ []) × (vec_items result.bytes ≡ []) }
+        ensures directory { result.directory ≡ directory }
+        ensures empty { (vec_items result.lengths ≡ []) × (vec_items result.bytes ≡ []) }
     {
         Parts {
             directory,
@@ -43,21 +48,20 @@ impl Parts {
         }
     }
 
-    // Whether one part more can be named too.
+    // Whether the directory can name one part more.
     pub(crate) fn takes(&self, part: &[u8]) -> bool
-        ensures { result ≡ nat_le (directory_end self.now.directory (vec_len self.now.lengths + 1) + vec_len self.now.bytes + length part.now) (most_bytes self.now.directory) }
+        ensures { result ≡ nat_le (size_with self.now part.now) (most_bytes self.now.directory) }
     {
         let count = self.lengths.len() as u16;
         self.directory.end(count + 1) + self.bytes.len() + part.len() <= most_bytes(self.directory)
     }
 
-    // One part more.
+    // Adds a part at the end.
     pub(crate) fn add(&mut self, part: &[u8]) -> Result<(), AllocError>
-        requires { directory_end self.old.directory (vec_len self.old.lengths + 1) + vec_len self.old.bytes + length part.now ≤ most_bytes self.old.directory }
-        ensures named { self.new.directory ≡ self.old.directory }
-        ensures lengths { OnOk result (vec_items self.new.lengths ≡ vec_items self.old.lengths ++ length part.now ∷ []) }
-        ensures bytes { OnOk result (vec_items self.new.bytes ≡ vec_items self.old.bytes ++ part.now) }
-        ensures unchanged { OnErr result ((vec_items self.new.lengths ≡ vec_items self.old.lengths) × (vec_items self.new.bytes ≡ vec_items self.old.bytes)) }
+        requires { size_with self.old part.now ≤ most_bytes self.old.directory }
+        ensures directory { self.new.directory ≡ self.old.directory }
+        ensures ok { OnOk result (PartAdded self.old self.new part.now) }
+        ensures err { OnErr result (SameParts self.old self.new) }
     {
         self.lengths.reserve(1)?;
         self.bytes.extend_from_slice(part)?;
@@ -65,9 +69,9 @@ impl Parts {
         Ok(())
     }
 
-    // The directory behind a head, and the parts.
+    // The directory behind a head of two bytes, and the parts.
     pub(crate) fn packed(&self, heap: Global, head: &[u8]) -> Result<Vec<u8>, AllocError>
-        ensures { IfOk result (λ v. vec_items v ≡ laid_out self.now.directory head.now (vec_items self.now.lengths) (vec_items self.now.bytes)) }
+        ensures { IfOk result (λ packed. vec_items packed ≡ bytes_behind head.now self.now) }
     {
         let mut packed = Vec::from_slice(heap, head)?;
         let mut at = self.directory.end(self.lengths.len() as u16);

@@ -1,4 +1,4 @@
-// The parts that a directory names.
+// Parts: what the pairs of a directory name, the rows of a sheet or the cells of a row.
 ghost use Rattle.std.specs.Prelude.{◌≡◌, ◌+◌, ◌≤◌, length, vec_len, vec_items};
 ghost use Rattle.std.specs.List.{sum};
 ghost use Rattle.sheets.specs.Layout.{directory_end};
@@ -6,12 +6,14 @@ ghost use Rattle.sheet_writer.specs.PackedParts.{most_bytes};
 
 use sheets::directory::Directory;
 
-// Parts one behind the other, and how long each is; all of them can be named.
+// The bytes of the parts, one after the other, and how long each part is. An offset and a length of
+// the directory can name each.
 #[derive(Drop)]
 pub(crate) struct Parts {
     pub(crate) directory: Directory,
     pub(crate) lengths: Vec<usize>,
     pub(crate) bytes: Vec<u8>,
     ghost counted: { sum (vec_items lengths) ≡ length (vec_items bytes) },
-    ghost within: { directory_end directory (vec_len lengths) + vec_len bytes ≤ most_bytes directory },
+    ghost within: { directory_end directory (vec_len lengths) + vec_len bytes
+        ≤ most_bytes directory },
 }

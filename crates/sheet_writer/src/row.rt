@@ -1,4 +1,4 @@
-// The row of a form.
+// Forms, written as rows.
 ghost use Rattle.std.specs.Prelude.{◌≡◌, ◌≤◌, true, length, map, Ok, IfOk, IfSome, vec_items};
 ghost use Rattle.std.specs.List.{list_all};
 ghost use Rattle.std.specs.Option.{option_map};
@@ -6,16 +6,21 @@ ghost use Rattle.forms.specs.declared.form.Form.TheVariants.{Entry, Change, Mass
 ghost use Rattle.sheets.specs.Rows.{read_form};
 ghost use Rattle.sheets.specs.declared.directory.Directory.TheVariants.{Cells};
 ghost use Rattle.sheet_writer.specs.CellTexts.{letter, letter_byte, cells, text, has_room};
+ghost use Rattle.sheet_writer.specs.PartLists.{Packs};
 ghost use Rattle.sheet_writer.specs.WorkedSheet.{WorkedSheet};
-ghost use Rattle.sheet_writer.specs.WrittenRows.{Packs, row_if_fits};
+ghost use Rattle.sheet_writer.specs.WrittenRows.{row_if_fits};
 
 use crate::cell::Cell;
 use crate::parts::Parts;
 use forms::form::{ChangeForm, EntryForm, Form, MassCancelForm};
 use sheets::directory::Directory;
-use sheets::letter::Letter;
+use sheets::letter::{
+    CANCEL_BYTE, CHANGE_BYTE, CLOSING_BYTE, ENTRY_BYTE, Letter, MASS_CANCEL_BYTE, MOST_CELLS,
+    OPENING_BYTE,
+};
 use std::alloc::{AllocError, Global};
 
+// The letter of a form's row.
 fn letter(form: Form) -> Letter
     ensures { result ≡ letter form }
 {
@@ -29,20 +34,21 @@ fn letter(form: Form) -> Letter
     }
 }
 
+// The first byte of a row of the letter.
 fn letter_byte(letter: Letter) -> u8
     ensures { result ≡ letter_byte letter }
 {
     match letter {
-        Letter::Entry => b'E',
-        Letter::Change => b'M',
-        Letter::Cancel => b'X',
-        Letter::MassCancel => b'A',
-        Letter::Closing => b'Z',
-        Letter::Opening => b'O',
+        Letter::Entry => ENTRY_BYTE,
+        Letter::Change => CHANGE_BYTE,
+        Letter::Cancel => CANCEL_BYTE,
+        Letter::MassCancel => MASS_CANCEL_BYTE,
+        Letter::Closing => CLOSING_BYTE,
+        Letter::Opening => OPENING_BYTE,
     }
 }
 
-// The cells of a form, in the order of its row.
+// The cells of an entry, in the order of its row.
 fn entry_cells(f: EntryForm) -> [Cell; 12]
     ensures { result ≡ cells (Entry f) }
 {
@@ -62,6 +68,7 @@ fn entry_cells(f: EntryForm) -> [Cell; 12]
     ]
 }
 
+// The cells of a change.
 fn change_cells(f: ChangeForm) -> [Cell; 7]
     ensures { result ≡ cells (Change f) }
 {
@@ -76,6 +83,7 @@ fn change_cells(f: ChangeForm) -> [Cell; 7]
     ]
 }
 
+// The cells of a mass cancel.
 fn mass_cancel_cells(f: MassCancelForm) -> [Cell; 4]
     ensures { result ≡ cells (MassCancel f) }
 {
@@ -87,8 +95,9 @@ fn mass_cancel_cells(f: MassCancelForm) -> [Cell; 4]
     ]
 }
 
+// The cells of a form, in the order of its row.
 fn cells(heap: Global, form: Form) -> Result<Vec<Cell>, AllocError>
-    ensures { IfOk result (λ v. vec_items v ≡ cells form) }
+    ensures { IfOk result (λ list. vec_items list ≡ cells form) }
 {
     match form {
         Form::Entry(f) => Vec::from_slice(heap, &entry_cells(f)),
@@ -110,7 +119,7 @@ fn all_have_room(cells: &[Cell]) -> bool
 // The cells as the parts of a row.
 fn parts_of(heap: Global, cells: &[Cell]) -> Result<Parts, AllocError>
     requires room { list_all has_room cells.now ≡ true }
-    requires few { length cells.now ≤ 12 }
+    requires few { length cells.now ≤ MOST_CELLS }
     ensures { IfOk result (Packs Cells (map text cells.now)) }
 {
     let mut parts = Parts::none(heap, Directory::Cells);
@@ -120,7 +129,7 @@ fn parts_of(heap: Global, cells: &[Cell]) -> Result<Parts, AllocError>
     Ok(parts)
 }
 
-// The bytes of a form's row, which read as the form; none where a cell has no room for its value.
+/// The bytes of a form's row, which read as the form; none where a cell has no room for its value.
 #[tactic(auto, using(crate::proofs::RowReadsBack::fits_by_cells))]
 pub fn write_row(heap: Global, form: Form) -> Result<Option<Vec<u8>>, AllocError>
     ensures answer { IfOk result (λ row. option_map vec_items row ≡ row_if_fits form) }
@@ -135,7 +144,7 @@ pub fn write_row(heap: Global, form: Form) -> Result<Option<Vec<u8>>, AllocError
     Ok(Some(parts.packed(heap, &head)?))
 }
 
-// The worked sheet comes out as it says.
+/// The worked sheet of specs/WorkedSheet.antt is written as it says. It does nothing when it runs.
 pub fn worked_sheet()
     ensures { WorkedSheet }
 {}

@@ -1,5 +1,5 @@
--- A row is read from the bytes that its pair names and from no other byte, and so is a cell (sheets
--- 2).
+-- A row is read from the bytes that its pair names and from no other byte, and so is a cell
+-- (sheets 2).
 use Rattle.std.specs.Prelude.{◌≡◌, ℕ, ◌+◌, ◌<◌, List, None, slice_index}
 use Rattle.sheets.specs.Layout.{word, offset_at, length_at, first_misplaced, part_at}
 use Rattle.sheets.specs.Rows.{number_cell, price_cell, type_cell, read_form}

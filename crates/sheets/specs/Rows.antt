@@ -1,5 +1,5 @@
--- A row, read: the form of its letter, cell by cell from the left, or the first refusal (sheets 3,
--- 5).
+-- A row, read: the form of its letter, cell by cell from the left, or the first refusal
+-- (sheets 3, 5).
 use Rattle.std.specs.Prelude.{ℕ, ◌+◌, ◌*◌, not, ◌||◌, List, [], ◌∷◌, length, Some, None, Ok, Err, Option, Result, ◌==◌, nat_lt, if◌then◌else◌}
 use Rattle.orders.specs.declared.price.Price.{Price}
 use Rattle.forms.specs.declared.form.EntryForm.{EntryForm}

@@ -22,7 +22,7 @@ loop-cell-preserved c =
     let p = c.loop-cell.invariant.packs in
     let lengths = lengths_more cells i c.loop-cell-test.true in
     let bytes = bytes_more cells i c.loop-cell-test.true in
-    let t = c.in_ok-add.ensures in
+    let t = c.in_ok-add.ensures.ok in
     let text = c.in_ok-text.ensures in
     let short : length c.as_slice.result.now ≤ 12 =
     omega (arith, ap length c.as_slice.ensures.value, ap length text, short_there cells i c.loop-cell-test.true c.requires.room) in

@@ -14,11 +14,11 @@ returns-clause-answer c =
     rw (sheet_cut (vec_items kept.lengths) (vec_items kept.bytes) kept.counted) (rw (c.args.self.now.sheet, c.len-count.ensures, many) at c.packed.ensures)
 
 pub returns-clause-back : goal.returns-clause-back
-returns-clause-back c forms same fit =
+returns-clause-back c forms held =
     let kept = c.args.self.now.rows in
     let few : length forms ≤ 512 =
-    omega (arith, length-map forms row_written, ap length same, length-cut_by_lengths (vec_items kept.lengths) (vec_items kept.bytes), c.args.self.now.few) in
+    omega (arith, length-map forms row_written, ap length held.written, length-cut_by_lengths (vec_items kept.lengths) (vec_items kept.bytes), c.args.self.now.few) in
     let size = sheet_size (vec_items kept.lengths) (vec_items kept.bytes) kept.counted in
     let within = rw c.args.self.now.sheet at kept.within in
-    let short : length (sheet_written forms) ≤ 65535 = rw (← same) (omega (arith, size, within)) in
-    IfOk-weaker c.packed.result (λ v. vec_items v ≡ sheet_of (rows c.args.self.now)) (λ v. ReadsAs forms (vec_items v)) (λ v e. rw (e, same) (sheet_back forms fit few short)) (returns-clause-answer c)
+    let short : length (sheet_written forms) ≤ 65535 = rw (← held.written) (omega (arith, size, within)) in
+    IfOk-weaker c.packed.result (λ v. vec_items v ≡ sheet_of (rows c.args.self.now)) (λ v. ReadsAs forms (vec_items v)) (λ v e. rw (e, held.written) (sheet_back forms held.fit few short)) (returns-clause-answer c)
