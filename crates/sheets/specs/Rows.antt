@@ -19,11 +19,6 @@ use Rattle.sheets.specs.declared.directory.Directory.TheVariants.{Cells}
 use Rattle.sheets.specs.declared.letter.Letter.{Letter}
 use Rattle.sheets.specs.declared.letter.Letter.TheVariants.{Entry, Change, Cancel, MassCancel, Closing, Opening}
 
--- the first refusal ends the reading (numbers 5)
-abbrev pub and_then : {A B : Type 0} → Result A Refusal → (A → Result B Refusal) → Result B Refusal
-and_then (Ok x) f = f x
-and_then (Err e) f = Err e
-
 -- cell k, from 0, as its reader answers; a refusal counts it from 1 (numbers 2)
 abbrev pub in_cell : {A : Type 0} → (k : ℕ) → Result A ℕ → Result A Refusal
 in_cell k (Ok value) = Ok value
