@@ -106,7 +106,7 @@ cancel_answer form queues tape =
 
 abbrev pub cancel_found : Found → MatchState → MatchState
 cancel_found target state =
-    apply (cancels_resting NewOrder target.queue target.at target.«record») state
+    apply (cancels_resting Requested target.queue target.at target.«record») state
 
 abbrev pub after_cancel : CancelForm → MatchState → MatchState
 after_cancel form state =
@@ -119,7 +119,7 @@ mass_cancel_answer form queues tape =
     Ok filter))
 
 abbrev pub cancel_matching : CancelFilter → MatchState → MatchState
-cancel_matching filter state = removals (Matching filter) NewOrder state
+cancel_matching filter state = removals (Matching filter) Requested state
 
 abbrev pub after_mass_cancel : MassCancelForm → MatchState → MatchState
 after_mass_cancel form state =
