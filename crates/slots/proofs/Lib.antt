@@ -1,3 +1,3 @@
-pub mod SlotRecords
+pub mod SlotRows
 pub mod PutAtGap
 pub mod SlotCalls

@@ -1,4 +1,4 @@
--- What slots hold, and what a store of 32 of them means.
+-- What slots hold, and what a store of slots means (rules 5).
 use Rattle.std.specs.Prelude.{◌≡◌, ℕ, ◌<◌, ◌≤◌, Bool, true, not, List, length, get_or, take, is_some, Some, None, Option, slice_index_or}
 use Rattle.std.specs.List.{filter_map}
 use Rattle.std.proofs.Common.{arith}
@@ -6,40 +6,46 @@ use Rattle.std.proofs.lemmas.List.{length-take}
 use Rattle.orders.specs.declared.rank.Rank.{Rank}
 use Rattle.orders.specs.Ranks.{ranks_ahead}
 use Rattle.books.specs.Contents.{Contents}
+use Rattle.slots.specs.declared.store.TheConstants.{SLOTS}
 
--- the records of the taken slots, in order
-abbrev pub slot_records : {X : Type 0} → List (Option X) → List X
-slot_records ss = filter_map (λ s. s) ss
+-- the rows of the taken slots, in order
+abbrev pub slot_rows : {X : Type 0} → List (Option X) → List X
+slot_rows slots = filter_map (λ slot. slot) slots
 
--- a slot that a rank k goes behind: a free one, or one whose record k is not before
+-- a slot that a rank goes behind: a free one, or one whose row the rank is not ahead of
 abbrev pub not_behind : {X : Type 0} → (X → Rank) → Rank → Option X → Bool
-not_behind f k None = true
-not_behind f k (Some x) = not (ranks_ahead k (f x))
+not_behind rank_of rank None = true
+not_behind rank_of rank (Some row) = not (ranks_ahead rank (rank_of row))
 
--- slot i is taken, and so many taken ones stand before it
-pub record IsSlotOfIndex {X : Type 0} (ss : List (Option X)) (at i : ℕ) : Type 0 where
-  pub within : i < length ss
-  pub taken : is_some (slice_index_or ss i None) ≡ true
-  pub count_before : length (slot_records (take i ss)) ≡ at
+-- a slot is taken, and so many taken ones come before it
+pub record IsSlotOfIndex {X : Type 0} (slots : List (Option X)) (index slot : ℕ) : Type 0 where
+  pub within : slot < length slots
+  pub taken : is_some (slice_index_or slots slot None) ≡ true
+  pub count_before : length (slot_rows (take slot slots)) ≡ index
 
--- the slot of the record at a place
-abbrev pub SlotOfIndex : {X : Type 0} → List (Option X) → ℕ → Option ℕ → Type 0
-SlotOfIndex ss at (Some i) = IsSlotOfIndex ss at i
-SlotOfIndex ss at None = length (slot_records ss) ≤ at
+-- the slot of the row at a place, if there is one
+abbrev pub SlotOfIndex : {X : Type 0} → List (Option X) → (index : ℕ) → Option ℕ → Type 0
+SlotOfIndex slots index (Some slot) = IsSlotOfIndex slots index slot
+SlotOfIndex slots index None = length (slot_rows slots) ≤ index
 
--- slot i is free
-pub record IsFreeSlot {X : Type 0} (ss : List (Option X)) (i : ℕ) : Type 0 where
-  pub within : i < length ss
-  pub free : get_or ss i None ≡ None
+-- a slot is free
+pub record IsFreeSlot {X : Type 0} (slots : List (Option X)) (slot : ℕ) : Type 0 where
+  pub within : slot < length slots
+  pub free : get_or slots slot None ≡ None
 
--- a free slot, if any
+-- a free slot, if there is one
 abbrev pub FreeSlot : {X : Type 0} → List (Option X) → Option ℕ → Type 0
-FreeSlot ss (Some i) = IsFreeSlot ss i
-FreeSlot ss None = length (slot_records ss) ≡ length ss
+FreeSlot slots (Some slot) = IsFreeSlot slots slot
+FreeSlot slots None = length (slot_rows slots) ≡ length slots
 
--- the records of 32 slots
+-- what a store means: the rows of its slots, of which it has 32
 abbrev pub slot_contents : {X : Type 0} → List (Option X) → Contents X
-slot_contents ss = record { rows = take 32 (slot_records ss); capacity = 32; count_within = at_most 32 (slot_records ss); capacity_within = omega arith }
+slot_contents slots = record {
+  rows = take SLOTS (slot_rows slots);
+  capacity = SLOTS;
+  count_within = at_most SLOTS (slot_rows slots);
+  capacity_within = omega arith;
+}
   where
     at_most : {X : Type 0} (n : ℕ) (xs : List X) → length (take n xs) ≤ n
     at_most n xs = simp length-take (omega arith)

@@ -1,4 +1,4 @@
--- What a slot book means: four stores of 32 slots.
+-- What a slot book means: the queues of four stores of slots (rules 5).
 use Rattle.orders.specs.declared.row.OrderRow.{OrderRow}
 use Rattle.orders.specs.declared.row.StopRow.{StopRow}
 use Rattle.books.specs.declared.stored_book.StoredBook.{StoredBook}
@@ -8,4 +8,4 @@ use Rattle.slots.specs.declared.store.SlotStore.{SlotStore}
 use Rattle.slots.specs.SlotContents.{slot_contents}
 
 abbrev pub slot_queues : StoredBook (SlotStore OrderRow) (SlotStore StopRow) → Queues
-slot_queues = stored_queues (λ r. slot_contents r.slots) (λ r. slot_contents r.slots)
+slot_queues = stored_queues (λ store. slot_contents store.slots) (λ store. slot_contents store.slots)

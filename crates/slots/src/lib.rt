@@ -1,4 +1,4 @@
-// The slot book: 32 own slots a queue, in rank order, free ones between.
+// The slot book: 32 slots of its own for each queue, with the rows in rank order and free slots between (rules 5).
 #![tactic(auto)]
 
 pub mod book;

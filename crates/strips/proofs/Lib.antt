@@ -1,4 +1,4 @@
 pub mod ReversedLists
-pub mod CappedFront
-pub mod EachRecord
-pub mod HighestCovers
+pub mod RowsByRank
+pub mod EachRowPasses
+pub mod NoneAboveHighest

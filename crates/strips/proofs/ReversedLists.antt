@@ -1,5 +1,5 @@
--- A list that stands the other way round: what is written, put in and taken out at one end's count is so at the other's.
-use Rattle.std.proofs.Common.{◌≡◌, ℕ, suc, ◌+◌, ◌-◌, ◌<◌, ◌≤◌, List, [], ◌∷◌, ◌++◌, length, take, drop, set, reverse, sym, refl, ap, ◌∙◌, arith}
+-- Reversed lists: what is set, put in and removed at a place counted from one end is so at the place counted from the other.
+use Rattle.std.proofs.Common.{◌≡◌, ℕ, suc, ◌+◌, List, [], ◌∷◌, ◌++◌, length, take, drop, set, reverse, sym, refl, ap, ◌∙◌, arith}
 use Rattle.std.specs.List.{insert, remove}
 use Rattle.std.proofs.lemmas.List.{reverse-append, length-reverse, take-append-drop, length-drop, take_at, drop_at, append_assoc, set_split}
 

@@ -1,4 +1,4 @@
--- What a strip book means: four ranked rows.
+-- What a strip book means: the queues of four strips (rules 5).
 use Rattle.orders.specs.declared.row.OrderRow.{OrderRow}
 use Rattle.orders.specs.declared.row.StopRow.{StopRow}
 use Rattle.orders.specs.declared.ranked.Numbered.{Ghosts}
@@ -8,5 +8,6 @@ use Rattle.books.specs.StoredQueues.{stored_queues}
 use Rattle.strips.specs.declared.row.RankedRow.{RankedRow}
 use Rattle.strips.specs.StripContents.{strip_contents}
 
-abbrev pub strip_queues : {n : Ghosts OrderRow} {m : Ghosts StopRow} → StoredBook (RankedRow OrderRow n) (RankedRow StopRow m) → Queues
+abbrev pub strip_queues : {n : Ghosts OrderRow} {m : Ghosts StopRow} →
+    StoredBook (RankedRow OrderRow n) (RankedRow StopRow m) → Queues
 strip_queues = stored_queues strip_contents strip_contents

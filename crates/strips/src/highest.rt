@@ -1,4 +1,4 @@
-// The highest numbers that a row has seen: what is higher need not be looked for.
+// The highest numbers of the rows of a strip: what is above them need not be looked for.
 ghost use Rattle.std.specs.Prelude.{◌≡◌, ℕ, ◌<◌, ◌≤◌, ◌%◌, true, nat_le, slice_index};
 ghost use Rattle.strips.specs.Highest.{not_above};
 
@@ -7,48 +7,52 @@ use orders::ranked::Numbered;
 // Firms fall into classes by the rest of their number, so that each of a few firms may number its orders in its own way.
 const CLASSES: usize = 16;
 
+// The highest order number, and for each class of firms the highest client number. A row that leaves lowers none of them.
 #[derive(Clone, Copy)]
-pub(crate) struct HighestSeen {
+pub(crate) struct HighestNumbers {
     number: u32,
     clients: [u32; CLASSES],
 }
 
 fn class_of(firm: u16) -> usize
-    ensures answer { result ≡ firm % 16 }
-    ensures within { result < 16 }
+    ensures answer { result ≡ firm % CLASSES }
+    ensures within { result < CLASSES }
 {
     usize::from(firm) % CLASSES
 }
 
-impl HighestSeen {
-    pub(crate) fn none() -> HighestSeen {
-        HighestSeen {
+impl HighestNumbers {
+    // Those of no rows.
+    pub(crate) fn none() -> HighestNumbers {
+        HighestNumbers {
             number: 0,
             clients: [0; CLASSES],
         }
     }
 
-    // What is seen with one more.
-    pub(crate) fn with<T: Numbered>(mut self, x: &T) -> HighestSeen
-        ensures covered { not_above T.Numbered.number T.Numbered.firm T.Numbered.client result x.now ≡ true }
-        ensures others { (y : T) → not_above T.Numbered.number T.Numbered.firm T.Numbered.client self y ≡ true → not_above T.Numbered.number T.Numbered.firm T.Numbered.client result y ≡ true }
+    // Those with one row more.
+    pub(crate) fn with<T: Numbered>(mut self, row: &T) -> HighestNumbers
+        ensures covered { not_above T.Numbered.number T.Numbered.firm T.Numbered.client result row.now ≡ true }
+        ensures others { (other : T) →
+            not_above T.Numbered.number T.Numbered.firm T.Numbered.client self other ≡ true →
+            not_above T.Numbered.number T.Numbered.firm T.Numbered.client result other ≡ true }
     {
-        let class = class_of(x.firm());
-        self.number = self.number.max(x.number());
-        self.clients[class] = self.clients[class].max(x.client());
+        let class = class_of(row.firm());
+        self.number = self.number.max(row.number());
+        self.clients[class] = self.clients[class].max(row.client());
         self
     }
 
-    // Whether what has a number may have been seen.
+    // Whether a row may have a number.
     pub(crate) fn may_have(&self, number: u32) -> bool
         ensures { result ≡ nat_le number self.now.number }
     {
         number <= self.number
     }
 
-    // Whether what has a firm's client number may have been seen.
+    // Whether a row may have a firm's client number.
     pub(crate) fn may_have_client(&self, firm: u16, client: u32) -> bool
-        ensures { result ≡ nat_le client (slice_index self.now.clients (firm % 16)) }
+        ensures { result ≡ nat_le client (slice_index self.now.clients (firm % CLASSES)) }
     {
         client <= self.clients[class_of(firm)]
     }

@@ -1,44 +1,43 @@
-// A ranked row as a store.
-ghost use Rattle.std.specs.Prelude.{◌≡◌, ◌≤◌, min, [], length, take, reverse};
+// A strip as a store.
+ghost use Rattle.std.specs.Prelude.{◌≡◌, ◌≤◌, [], length, take, reverse};
+ghost use Rattle.strips.specs.Ranked.{strip_capacity};
 ghost use Rattle.strips.specs.StripContents.{slice_len, strip_contents};
 
 use super::RankedRow;
 use super::slices::{find_in, insert_in, look_in, remove_in, write_in};
-use crate::highest::HighestSeen;
+use crate::highest::HighestNumbers;
+use books::book::MOST_RECORDS;
 use books::queue_store::QueueStore;
 use orders::ranked::Ranked;
 
-// The largest capacity of a queue.
-const MOST: usize = 1_000_000;
-
 impl<'a, T: Ranked + Copy> RankedRow<'a, T> {
-    // An empty row over a slice, whatever lies in it.
+    /// An empty strip over a slice, whatever is in it.
     pub fn over(rows: &'a mut [T]) -> RankedRow<'a, T>
         ensures state { (strip_contents result).rows ≡ [] }
-        ensures room { (strip_contents result).capacity ≡ min 1000000 (length rows.old) }
+        ensures capacity { (strip_contents result).capacity ≡ strip_capacity rows.old }
     {
         RankedRow {
             rows,
             count: 0,
-            highest: HighestSeen::none(),
+            highest: HighestNumbers::none(),
         }
     }
 
-    // How many records the row can hold.
-    fn room(&self) -> usize
+    // How many rows the strip can hold.
+    fn capacity(&self) -> usize
         ensures answer { result ≡ (strip_contents self.now).capacity }
         ensures within { result ≤ slice_len self.now }
     {
-        MOST.min(self.rows.len())
+        MOST_RECORDS.min(self.rows.len())
     }
 
-    // How many records stand in the row. Cut to the room at each use, so that the row needs no fact about how much is lent.
+    // How many rows the strip has: its count, cut to the capacity, so that the strip needs no fact about the length of its slice.
     fn used(&self) -> usize
         ensures answer { result ≡ length (strip_contents self.now).rows }
         ensures within { result ≤ slice_len self.now }
         ensures front { (strip_contents self.now).rows ≡ reverse (take result self.now.rows.now) }
     {
-        self.count.min(self.room())
+        self.count.min(self.capacity())
     }
 }
 
@@ -48,11 +47,11 @@ impl<'a, T: Ranked + Copy> QueueStore for RankedRow<'a, T> {
     ghost contents = { strip_contents };
 
     fn size(&self) -> (usize, usize) {
-        (self.used(), self.room())
+        (self.used(), self.capacity())
     }
 
-    fn look(&self, at: usize) -> Option<T> {
-        look_in(&self.rows[0..self.used()], at)
+    fn look(&self, index: usize) -> Option<T> {
+        look_in(&self.rows[0..self.used()], index)
     }
 
     fn find(&self, number: u32) -> Option<usize> {
@@ -62,33 +61,33 @@ impl<'a, T: Ranked + Copy> QueueStore for RankedRow<'a, T> {
         find_in(&self.rows[0..self.used()], number)
     }
 
-    fn put(&mut self, x: T) -> bool {
-        let n = self.used();
-        if n >= self.room() {
+    fn put(&mut self, row: T) -> bool {
+        let count = self.used();
+        if count >= self.capacity() {
             return false;
         }
-        self.highest = self.highest.with(&x);
-        insert_in(self.rows, n, x);
-        self.count = n + 1;
+        self.highest = self.highest.with(&row);
+        insert_in(self.rows, count, row);
+        self.count = count + 1;
         true
     }
 
-    fn replace(&mut self, at: usize, x: T) {
-        let n = self.used();
-        if at < n {
-            self.highest = self.highest.with(&x);
-            write_in(self.rows, n - 1 - at, x);
+    fn replace(&mut self, index: usize, row: T) {
+        let count = self.used();
+        if index < count {
+            self.highest = self.highest.with(&row);
+            write_in(self.rows, count - 1 - index, row);
         }
     }
 
-    fn take(&mut self, at: usize) -> Option<T> {
-        let x = self.look(at);
-        let n = self.used();
-        if at < n {
-            remove_in(self.rows, n, at);
-            self.count = n - 1;
+    fn take(&mut self, index: usize) -> Option<T> {
+        let row = self.look(index);
+        let count = self.used();
+        if index < count {
+            remove_in(self.rows, count, index);
+            self.count = count - 1;
         }
-        x
+        row
     }
 
     fn may_have_client(&self, firm: u16, client: u32) -> bool {
@@ -97,6 +96,6 @@ impl<'a, T: Ranked + Copy> QueueStore for RankedRow<'a, T> {
 
     fn clear(&mut self) {
         self.count = 0;
-        self.highest = HighestSeen::none();
+        self.highest = HighestNumbers::none();
     }
 }

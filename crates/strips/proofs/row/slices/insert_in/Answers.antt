@@ -10,9 +10,9 @@ pub returns : goal.returns
 returns g c =
     let xs = c.args.rows.now in
     let p = c.rank_index-index.result in
-    let le : p ≤ c.args.n = search (rules, length-take-le) in
-    let e : p ≡ rank_index g.T.Ranked.rank (g.T.Ranked.rank c.args.x) (reverse (take c.args.n xs)) = search (rules, c.rank.ensures) in
+    let le : p ≤ c.args.count = search (rules, length-take-le) in
+    let e : p ≡ rank_index g.T.Ranked.rank (g.T.Ranked.rank c.args.row) (reverse (take c.args.count xs)) = search (rules, c.rank.ensures) in
     rw c.shift_in.ensures (
-    ap reverse (insert_part xs c.args.n (c.args.n - p) c.args.x (omega arith) c.requires)
-    ∙ turned_insert (take c.args.n xs) (c.args.n - p) p c.args.x (omega (arith, length-take-le c.args.n xs))
-    ∙ ap (λ k. insert (reverse (take c.args.n xs)) k c.args.x) e)
+    ap reverse (insert_part xs c.args.count (c.args.count - p) c.args.row (omega arith) c.requires)
+    ∙ turned_insert (take c.args.count xs) (c.args.count - p) p c.args.row (omega (arith, length-take-le c.args.count xs))
+    ∙ ap (λ k. insert (reverse (take c.args.count xs)) k c.args.row) e)

@@ -1,4 +1,4 @@
--- A test that each of a list passes: where one is put in, taken out or written over, and what it says of the list.
+-- A test that every row of a list passes: after one is put in, removed or replaced, and what it says of a number.
 use Rattle.std.proofs.Common.{◌≡◌, ℕ, zero, suc, Bool, true, false, not, eqb, ◌||◌, List, [], ◌∷◌, ◌++◌, length, take, drop, set, true≢false, sym, refl, ◌∙◌, arith}
 use Rattle.std.specs.List.{list_all, list_any, prefix_len, insert, remove}
 use Rattle.std.proofs.lemmas.Bool.{and_parts, and_from}
@@ -34,15 +34,14 @@ module _ {X : Type 0} (p : X → Bool) where
   each_weaker q h [] e = refl
   each_weaker q h (x ∷ xs) e = and_from _ _ (h x (and_parts _ _ e).0) (each_weaker q h xs (and_parts _ _ e).1)
 
-  -- none has a number that whoever passes does not have
+  -- where no row that passes has a number, none of them has it
   pub none_numbered : (f : X → ℕ) (n : ℕ) → ((x : X) → p x ≡ true → eqb (f x) n ≡ false) → (xs : List X) → list_all p xs ≡ true →
       prefix_len (λ x. not (eqb (f x) n)) xs ≡ length xs
   none_numbered f n h [] e = refl
   none_numbered f n h (x ∷ xs) e =
-      let rest : prefix_len (λ y. not (eqb (f y) n)) xs ≡ length xs = none_numbered f n h xs (and_parts _ _ e).1 in
-      rw (h x (and_parts _ _ e).0, rest) (omega arith)
+      rw (h x (and_parts _ _ e).0) (omega (arith, none_numbered f n h xs (and_parts _ _ e).1))
 
-  -- where one passes another test, what both tests say holds
+  -- where a row passes another test too, what both tests say holds
   pub one_of_each : (q : X → Bool) (P : Type 0) → ((x : X) → p x ≡ true → q x ≡ true → P) → (xs : List X) → list_all p xs ≡ true → list_any q xs ≡ true → P
   one_of_each q P gives [] e one = absurd (true≢false (sym one))
   one_of_each q P gives (x ∷ xs) e one = elim (q x) as (λ b. q x ≡ b → (b || list_any q xs) ≡ true → P) [
