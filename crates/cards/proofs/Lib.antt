@@ -1,1 +1,3 @@
+pub mod HeldOverFirst
+pub mod CardCalls
 pub mod ClientOverFirst

@@ -1,4 +1,4 @@
--- The side of a held row, if any.
+-- The side of a held row, if there is one: each is held for a queue of its own side.
 use Rattle.std.specs.Prelude.{Bool, true, Some, None, Option}
 use Rattle.orders.specs.declared.side.Side.{Side}
 use Rattle.orders.specs.declared.row.OrderRow.{OrderRow}
@@ -6,9 +6,9 @@ use Rattle.orders.specs.declared.row.StopRow.{StopRow}
 use Rattle.orders.specs.Sides.{same_side}
 
 abbrev pub order_side : Side → Option OrderRow → Bool
-order_side s None = true
-order_side s (Some r) = same_side s r.side
+order_side side None = true
+order_side side (Some row) = same_side side row.side
 
 abbrev pub stop_side : Side → Option StopRow → Bool
-stop_side s None = true
-stop_side s (Some r) = same_side s r.order.side
+stop_side side None = true
+stop_side side (Some row) = same_side side row.order.side

@@ -1,5 +1,4 @@
 pub mod HeldSides
 pub mod Held
 pub mod CardQueues
-pub mod CardCalls
-pub mod HeldOverFirst
+pub mod CardBounds

@@ -1,4 +1,4 @@
-// The book below, and the four plain rows that are held over its first records.
+// The front card: the book below, and for each queue at most one held row.
 ghost use Rattle.std.specs.Prelude.{◌≡◌, true};
 ghost use Rattle.orders.specs.declared.side.Side.TheVariants.{Buy, Sell};
 ghost use Rattle.cards.specs.HeldSides.{order_side, stop_side};
@@ -8,6 +8,8 @@ mod held;
 
 use orders::row::{OrderRow, StopRow};
 
+/// A front card: it lies on a book and holds back, for each queue, the latest rewrite of its first record, until a put into that queue. It
+/// means the queues of the book below with the held records in place of first ones of their number and rank (rules 5).
 #[derive(Drop)]
 pub struct FrontCard<B> {
     below: B,
@@ -15,8 +17,8 @@ pub struct FrontCard<B> {
     offer: Option<OrderRow>,
     buy: Option<StopRow>,
     sell: Option<StopRow>,
-    ghost bidding: { order_side Buy bid ≡ true },
-    ghost offering: { order_side Sell offer ≡ true },
-    ghost buying: { stop_side Buy buy ≡ true },
-    ghost selling: { stop_side Sell sell ≡ true },
+    ghost bid_side: { order_side Buy bid ≡ true },
+    ghost offer_side: { order_side Sell offer ≡ true },
+    ghost buy_side: { stop_side Buy buy ≡ true },
+    ghost sell_side: { stop_side Sell sell ≡ true },
 }

@@ -8,4 +8,5 @@ use Rattle.slots.specs.declared.store.SlotStore.{SlotStore}
 use Rattle.slots.specs.SlotContents.{slot_contents}
 
 abbrev pub slot_queues : StoredBook (SlotStore OrderRow) (SlotStore StopRow) → Queues
-slot_queues = stored_queues (λ store. slot_contents store.slots) (λ store. slot_contents store.slots)
+slot_queues =
+    stored_queues (λ store. slot_contents store.slots) (λ store. slot_contents store.slots)

@@ -5,7 +5,8 @@ use Rattle.strips.specs.declared.highest.HighestNumbers.{HighestNumbers}
 use Rattle.strips.specs.declared.highest.TheConstants.{CLASSES}
 
 -- a row's number is not above the highest, nor its client number above the highest of its firm's class
-abbrev pub not_above : {X : Type 0} → (number_of firm_of client_of : X → ℕ) → HighestNumbers → X → Bool
+abbrev pub not_above : {X : Type 0} →
+    (number_of firm_of client_of : X → ℕ) → HighestNumbers → X → Bool
 not_above number_of firm_of client_of highest row =
     nat_le (number_of row) highest.number
     && nat_le (client_of row) (slice_index highest.clients (firm_of row % CLASSES))

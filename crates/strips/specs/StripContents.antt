@@ -8,10 +8,12 @@ use Rattle.books.specs.Contents.{Contents}
 use Rattle.strips.specs.Ranked.{front, ranked, strip_capacity}
 use Rattle.strips.specs.declared.row.RankedRow.{RankedRow}
 
-front_within : {X : Type 0} (count most : ℕ) (xs : List X) → length (front count most xs) ≤ min most (length xs)
+front_within : {X : Type 0} (count most : ℕ) (xs : List X) →
+    length (front count most xs) ≤ min most (length xs)
 front_within count most xs = simp length-take (omega arith)
 
-pub ranked_within : {X : Type 0} (count : ℕ) (xs : List X) → length (ranked count xs) ≤ strip_capacity xs
+pub ranked_within : {X : Type 0} (count : ℕ) (xs : List X) →
+    length (ranked count xs) ≤ strip_capacity xs
 ranked_within count xs = rw length-reverse (front_within count MOST_RECORDS xs)
 
 -- the length of its slice

@@ -32,7 +32,8 @@ impl HighestNumbers {
 
     // Those with one row more.
     pub(crate) fn with<T: Numbered>(mut self, row: &T) -> HighestNumbers
-        ensures covered { not_above T.Numbered.number T.Numbered.firm T.Numbered.client result row.now ≡ true }
+        ensures covered { not_above T.Numbered.number T.Numbered.firm T.Numbered.client
+            result row.now ≡ true }
         ensures others { (other : T) →
             not_above T.Numbered.number T.Numbered.firm T.Numbered.client self other ≡ true →
             not_above T.Numbered.number T.Numbered.firm T.Numbered.client result other ≡ true }

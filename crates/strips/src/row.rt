@@ -16,6 +16,6 @@ pub struct RankedRow<'a, T: Numbered> {
     rows: &'a mut [T],
     count: usize,
     highest: HighestNumbers,
-    ghost rows_not_above: { all_not_above T.Numbered.number T.Numbered.firm T.Numbered.client highest
-        (ranked count rows.now) ≡ true },
+    ghost rows_not_above: { all_not_above T.Numbered.number T.Numbered.firm T.Numbered.client
+        highest (ranked count rows.now) ≡ true },
 }

@@ -1,11 +1,11 @@
-// What a front card holds, queue by queue.
+// The rows that a front card holds, queue by queue.
 ghost use Rattle.std.specs.Prelude.{◌≡◌, Some};
 ghost use Rattle.orders.specs.Rows.{order_of, stop_of};
 ghost use Rattle.books.specs.declared.queue.Record.{Record as RecordValue};
 ghost use Rattle.books.specs.declared.queue.Record.TheVariants.{Standing, Waiting};
-ghost use Rattle.books.specs.Model.{queue_of, record_rank, has_client, order_of_record};
+ghost use Rattle.books.specs.Model.{queue_of, record_rank};
 ghost use Rattle.cards.specs.CardQueues.{held_by};
-ghost use Rattle.cards.specs.Held.{held_at, held_with, held_without, none_held, over_first, one_is};
+ghost use Rattle.cards.specs.Held.{held_at, held_with, held_without, none_held, over_first, one_is, record_has_client};
 
 use super::FrontCard;
 use books::queue::{Queue, Record};
@@ -15,29 +15,29 @@ use orders::ranked::Numbered;
 use orders::row::{OrderRow, StopRow};
 use orders::side::Side;
 
-// A held record in the place of a first one of its rank.
+// The held record in place of a first one of its rank.
 pub(super) fn over(held: Option<Record>, first: Option<Record>) -> Option<Record>
     ensures { result ≡ over_first record_rank held first }
 {
     match held {
-        Some(h) if ranks_as(first, h) => held,
+        Some(record) if ranks_as(first, record) => held,
         _ => first,
     }
 }
 
-// Whether a held record is what a firm knows by a client number.
+// Whether a held record has a firm's client number.
 pub(super) fn is_of(held: Option<Record>, firm: u16, client: u32) -> bool
-    ensures { result ≡ one_is (has_client (λ (r : RecordValue). (order_of_record r).firm) (λ (r : RecordValue). (order_of_record r).client) firm client) held }
+    ensures { result ≡ one_is (record_has_client firm client) held }
 {
-    held.is_some_and(|r| r.firm() == firm && r.client() == client)
+    held.is_some_and(|record| record.firm() == firm && record.client() == client)
 }
 
-// Four plain rows beside the book below, as the owner named: that it stays is said by each call that writes.
+// Each call that writes a held row says that the book below is unchanged.
 impl<B> FrontCard<B> {
-    // The record that is held over a queue.
+    // The record that is held for a queue.
     pub(super) fn held(&self, queue: Queue) -> Option<Record>
         ensures answer { result ≡ held_at queue (held_by self.now) }
-        ensures there { (x : RecordValue) → result ≡ Some x → queue_of x ≡ queue }
+        ensures queue { (x : RecordValue) → result ≡ Some x → queue_of x ≡ queue }
     {
         match queue {
             Queue::Orders(Side::Buy) => self.bid.map(Record::from),
@@ -47,25 +47,25 @@ impl<B> FrontCard<B> {
         }
     }
 
-    // A record is held over its queue.
+    // A record is held for its queue, in place of the one before.
     pub(super) fn hold(&mut self, record: Record)
         ensures state { held_by self.new ≡ held_with «record» (held_by self.old) }
         ensures unchanged { self.new.below ≡ self.old.below }
     {
         match record {
-            Record::Standing(o) => match o.side {
-                Side::Buy => self.bid = Some(OrderRow::from(o)),
-                Side::Sell => self.offer = Some(OrderRow::from(o)),
+            Record::Standing(order) => match order.side {
+                Side::Buy => self.bid = Some(OrderRow::from(order)),
+                Side::Sell => self.offer = Some(OrderRow::from(order)),
             },
-            Record::Waiting(x) => match x.order.side {
-                Side::Buy => self.buy = Some(StopRow::from(x)),
-                Side::Sell => self.sell = Some(StopRow::from(x)),
+            Record::Waiting(stop) => match stop.order.side {
+                Side::Buy => self.buy = Some(StopRow::from(stop)),
+                Side::Sell => self.sell = Some(StopRow::from(stop)),
             },
         }
     }
 
-    // Nothing is held over a queue any more.
-    pub(super) fn let_go(&mut self, queue: Queue)
+    // Nothing is held for a queue any more.
+    pub(super) fn discard(&mut self, queue: Queue)
         ensures state { held_by self.new ≡ held_without queue (held_by self.old) }
         ensures unchanged { self.new.below ≡ self.old.below }
     {
@@ -78,7 +78,7 @@ impl<B> FrontCard<B> {
     }
 
     // Nothing is held any more.
-    pub(super) fn let_all_go(&mut self)
+    pub(super) fn discard_all(&mut self)
         ensures state { held_by self.new ≡ none_held }
         ensures unchanged { self.new.below ≡ self.old.below }
     {

@@ -1,5 +1,5 @@
 use Rattle.cards.specs.CardQueues.{held_by}
-use Rattle.cards.specs.CardCalls.{look_first}
+use Rattle.cards.proofs.CardCalls.{look_first}
 use Rattle.cards.proofs.card.FrontCard.first.Goals as goal
 
 pub returns : goal.returns

@@ -1,6 +1,6 @@
 use Rattle.std.proofs.Common.{refl, ap, ◌∙◌}
 use Rattle.cards.specs.CardQueues.{held_by}
-use Rattle.cards.specs.CardCalls.{fit_seen, fits_same, held_back, refused}
+use Rattle.cards.proofs.CardCalls.{allowed_by_look, allowed_same, held_back, refused}
 use Rattle.cards.proofs.card.FrontCard.hold_back.Goals as goal
 
 pub returns-then-fits : goal.returns-then-fits
@@ -10,10 +10,10 @@ returns-then-fits g c =
     let r = c.args.record in
     let last = c.hold.new.self in
     record {
-      answer = fit_seen r q c.queue.result c.look.result c.ranks_as-fits.result c.queue.ensures c.look.ensures c.ranks_as-fits.ensures
-          ∙ fits_same h q 0 r;
+      answer = allowed_by_look r q c.queue.result c.look.result c.ranks_as-fits.result c.queue.ensures c.look.ensures c.ranks_as-fits.ensures
+          ∙ allowed_same h q 0 r;
       state = held_back h q r (held_by last) (g.B.Book.queues last.below) c.hold.ensures.state (ap g.B.Book.queues c.hold.ensures.unchanged)
-          (fit_seen r q c.queue.result c.look.result _ c.queue.ensures c.look.ensures c.if-fits.ensures);
+          (allowed_by_look r q c.queue.result c.look.result _ c.queue.ensures c.look.ensures c.if-fits.ensures);
       unchanged = c.hold.ensures.unchanged;
     }
 
@@ -23,8 +23,8 @@ returns-else-fits g c =
     let q = g.B.Book.queues c.args.self.now.below in
     let r = c.args.record in
     record {
-      answer = fit_seen r q c.queue.result c.look.result c.ranks_as-fits.result c.queue.ensures c.look.ensures c.ranks_as-fits.ensures
-          ∙ fits_same h q 0 r;
-      state = refused h q r (fit_seen r q c.queue.result c.look.result _ c.queue.ensures c.look.ensures c.if-fits.ensures);
+      answer = allowed_by_look r q c.queue.result c.look.result c.ranks_as-fits.result c.queue.ensures c.look.ensures c.ranks_as-fits.ensures
+          ∙ allowed_same h q 0 r;
+      state = refused h q r (allowed_by_look r q c.queue.result c.look.result _ c.queue.ensures c.look.ensures c.if-fits.ensures);
       unchanged = refl;
     }

@@ -1,6 +1,6 @@
 use Rattle.std.proofs.Common.{◌∙◌}
 use Rattle.cards.specs.CardQueues.{held_by}
-use Rattle.cards.specs.CardCalls.{found_same}
+use Rattle.cards.proofs.CardCalls.{found_same}
 use Rattle.cards.proofs.card.book.FrontCardBook.find.Goals as goal
 
 pub returns : goal.returns

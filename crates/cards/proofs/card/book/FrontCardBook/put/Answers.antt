@@ -1,7 +1,7 @@
 use Rattle.std.proofs.Common.{ap, ◌∙◌}
 use Rattle.books.specs.Model.{put_answer}
 use Rattle.cards.specs.CardQueues.{held_by}
-use Rattle.cards.specs.CardCalls.{answer_same}
+use Rattle.cards.proofs.CardCalls.{answer_same}
 use Rattle.cards.proofs.card.book.FrontCardBook.put.Goals as goal
 
 pub returns-clause-answer : goal.returns-clause-answer

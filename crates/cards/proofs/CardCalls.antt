@@ -1,5 +1,5 @@
--- What the calls of a front card tell and leave.
-use Rattle.std.specs.Prelude.{◌≡◌, ℕ, zero, suc, Bool, true, false, cond, List, length, Some, None, Option, Ok, Err, ◌≢◌, slice_set, refl}
+-- What the calls of a front card answer and leave.
+use Rattle.std.specs.Prelude.{◌≡◌, ℕ, zero, suc, Bool, true, false, cond, List, Some, None, Option, Ok, Err, ◌≢◌, slice_set, refl}
 use Rattle.std.proofs.Common.{ap, sym, subst, ◌∙◌}
 use Rattle.std.specs.List.{remove, slice_get}
 use Rattle.std.specs.Option.{option_map}
@@ -9,14 +9,15 @@ use Rattle.orders.specs.declared.side.Side.TheVariants.{Buy, Sell}
 use Rattle.orders.specs.declared.order.Order.{Order}
 use Rattle.orders.specs.declared.order.Stop.{Stop}
 use Rattle.books.specs.RankedLists.{ranks_as, swap_allowed, put_by_rank}
-use Rattle.books.specs.Model.{Both, at, with_at, Queues, Bounded, with_stands, with_waits, count, capacity, look_at, found, put_answer, after_put, taken, queue_of, number_of, rank_of, stop_rank_of, rewrite_allowed, record_set, rewritten, record_rank, PutAnswer}
+use Rattle.books.specs.Model.{Both, at, with_at, Queues, with_stands, with_waits, look_at, found, put_answer, after_put, taken, queue_of, number_of, rank_of, stop_rank_of, rewrite_allowed, record_set, rewritten, record_rank, PutAnswer}
 use Rattle.books.specs.declared.queue.Queue.{Queue}
 use Rattle.books.specs.declared.queue.Queue.TheVariants.{Orders, Stops}
 use Rattle.books.specs.declared.queue.Record.{Record}
 use Rattle.books.specs.declared.queue.Record.TheVariants.{Standing, Waiting}
 use Rattle.books.specs.declared.queue.PutError.TheVariants.{Full, Twice}
 use Rattle.cards.specs.Held.{Held, held_at, held_with, held_without, over, over_first, covered}
-use Rattle.cards.specs.HeldOverFirst.{over_length, over_later, over_number, over_is, over_fits, over_held, over_set, over_removed, over_first_removed}
+use Rattle.cards.specs.CardBounds.{count_same, capacity_same}
+use Rattle.cards.proofs.HeldOverFirst.{over_later, over_number, over_is, over_allowed, over_held, over_set, over_removed, over_first_removed}
 
 cond_out : {X Y : Type 0} (f : X → Y) (b : Bool) (x y : X) → f (cond b x y) ≡ cond b (f x) (f y)
 cond_out f true x y = refl
@@ -27,7 +28,7 @@ at_with : {A : Type 0} (s : Side) (a : A) (b : Both A) → at s (with_at s a b) 
 at_with Buy a b = refl
 at_with Sell a b = refl
 
--- records told as such rank as what they hold
+-- a record ranks as its order or stop
 first_standing : (h x : Option Order) → over_first record_rank (option_map Standing h) (option_map Standing x) ≡ option_map Standing (over_first rank_of h x)
 first_standing None x = refl
 first_standing (Some h) None = refl
@@ -47,20 +48,20 @@ ranks_waiting o None = refl
 ranks_waiting o (Some x) = refl
 
 -- the test that a rewrite of a first record makes is the one that it must make
-ranks_fit : (r : Record) (q : Queues) → ranks_as record_rank r (look_at (queue_of r) 0 q) ≡ rewrite_allowed 0 r q
-ranks_fit (Standing o) q = ranks_standing o (slice_get (at o.side q.stands) 0)
-ranks_fit (Waiting x) q = ranks_waiting x (slice_get (at x.order.side q.waits) 0)
+ranks_allowed : (r : Record) (q : Queues) → ranks_as record_rank r (look_at (queue_of r) 0 q) ≡ rewrite_allowed 0 r q
+ranks_allowed (Standing o) q = ranks_standing o (slice_get (at o.side q.stands) 0)
+ranks_allowed (Waiting x) q = ranks_waiting x (slice_get (at x.order.side q.waits) 0)
 
--- the same of a first record that was looked at
-pub fit_seen : (r : Record) (q : Queues) (n : Queue) (o : Option Record) (b : Bool) → n ≡ queue_of r → o ≡ look_at n 0 q →
+-- the same by the answer of a look at the first record
+pub allowed_by_look : (r : Record) (q : Queues) (n : Queue) (o : Option Record) (b : Bool) → n ≡ queue_of r → o ≡ look_at n 0 q →
     b ≡ ranks_as record_rank r o → b ≡ rewrite_allowed 0 r q
-fit_seen r q n o b e l t = t ∙ ap (ranks_as record_rank r) (l ∙ ap (λ m. look_at m 0 q) e) ∙ ranks_fit r q
+allowed_by_look r q n o b e l t = t ∙ ap (ranks_as record_rank r) (l ∙ ap (λ m. look_at m 0 q) e) ∙ ranks_allowed r q
 
 module _ (h : Held) (q : Queues) where
   abbrev Q : Queues
   Q = covered h q
 
-  -- each covered queue, and what a change of one of them leaves
+  -- each queue with its held record, and what a change of one of them leaves
   stands_at : (s : Side) → at s Q.stands ≡ over rank_of (at s h.orders) (at s q.stands)
   stands_at Buy = refl
   stands_at Sell = refl
@@ -104,23 +105,12 @@ module _ (h : Held) (q : Queues) where
     over_number stop_rank_of (λ (x : Stop). x.order.number) (λ _. refl) k h.stops.sell q.waits.sell,
   ) refl
 
-  pub count_same : (n : Queue) → count n q ≡ count n Q
-  count_same (Orders s) = sym (ap length (stands_at s) ∙ over_length rank_of (at s h.orders) (at s q.stands))
-  count_same (Stops s) = sym (ap length (waits_at s) ∙ over_length stop_rank_of (at s h.stops) (at s q.waits))
-
-  pub room_same : (n : Queue) → capacity n q ≡ capacity n Q
-  room_same (Orders s) = refl
-  room_same (Stops s) = refl
-
   pub answer_same : (r : Record) → put_answer r q ≡ put_answer r Q
-  answer_same r = rw (found_same (number_of r), count_same (queue_of r), room_same (queue_of r)) refl
+  answer_same r = rw (found_same (number_of r), count_same h q (queue_of r), capacity_same h q (queue_of r)) refl
 
-  pub fits_same : (i : ℕ) (r : Record) → rewrite_allowed i r q ≡ rewrite_allowed i r Q
-  fits_same i (Standing o) = sym (ap (swap_allowed rank_of i o) (stands_at o.side) ∙ over_fits rank_of (at o.side h.orders) (at o.side q.stands) i o)
-  fits_same i (Waiting x) = sym (ap (swap_allowed stop_rank_of i x) (waits_at x.order.side) ∙ over_fits stop_rank_of (at x.order.side h.stops) (at x.order.side q.waits) i x)
-
-  pub covered_bounded : Bounded q → Bounded Q
-  covered_bounded b = record { count_within = λ n. rw (← count_same n, ← room_same n) (b.count_within n); capacity_within = λ n. rw (← room_same n) (b.capacity_within n) }
+  pub allowed_same : (i : ℕ) (r : Record) → rewrite_allowed i r q ≡ rewrite_allowed i r Q
+  allowed_same i (Standing o) = sym (ap (swap_allowed rank_of i o) (stands_at o.side) ∙ over_allowed rank_of (at o.side h.orders) (at o.side q.stands) i o)
+  allowed_same i (Waiting x) = sym (ap (swap_allowed stop_rank_of i x) (waits_at x.order.side) ∙ over_allowed stop_rank_of (at x.order.side h.stops) (at x.order.side q.waits) i x)
 
   -- changes past the first record
   set_later : (i : ℕ) (r : Record) → covered h (record_set (suc i) r q) ≡ record_set (suc i) r Q
@@ -131,7 +121,7 @@ module _ (h : Held) (q : Queues) where
 
   pub rewrite_later : (i : ℕ) (r : Record) → (i ≢ 0) → covered h (rewritten i r q) ≡ rewritten i r Q
   rewrite_later zero r z = absurd (z refl)
-  rewrite_later (suc i) r z = cond_out (covered h) (rewrite_allowed (suc i) r q) (record_set (suc i) r q) q ∙ rw (fits_same (suc i) r, set_later i r) refl
+  rewrite_later (suc i) r z = cond_out (covered h) (rewrite_allowed (suc i) r q) (record_set (suc i) r q) q ∙ rw (allowed_same (suc i) r, set_later i r) refl
 
   pub take_later : (n : Queue) (i : ℕ) → (i ≢ 0) → covered h (taken n i q) ≡ taken n i Q
   take_later n zero z = absurd (z refl)
@@ -140,7 +130,7 @@ module _ (h : Held) (q : Queues) where
   take_later (Stops s) (suc i) z = with_waits_covered s (remove (at s q.waits) (suc i))
       ∙ ap (λ (l : List Stop). with_waits s l Q) (over_removed stop_rank_of (at s h.stops) (at s q.waits) i ∙ ap (λ (l : List Stop). remove l (suc i)) (sym (waits_at s)))
 
-  -- the first record leaves, and what was held over it
+  -- the first record leaves, and with it the one held for it
   take_first : (n : Queue) → covered (held_without n h) (taken n 0 q) ≡ taken n 0 Q
   take_first (Orders Buy) = ap (λ (l : List Order). with_stands Buy l Q) (sym (over_first_removed rank_of h.orders.buy q.stands.buy))
   take_first (Orders Sell) = ap (λ (l : List Order). with_stands Sell l Q) (sym (over_first_removed rank_of h.orders.sell q.stands.sell))
@@ -192,12 +182,12 @@ module _ (h : Held) (q : Queues) where
 
   pub held_back : (r : Record) (k : Held) (p : Queues) → k ≡ held_with r h → p ≡ q → true ≡ rewrite_allowed 0 r q → covered k p ≡ rewritten 0 r Q
   held_back r k p e t f = ap (λ z. covered z p) e ∙ ap (covered (held_with r h)) t ∙ set_held r (sym f)
-      ∙ sym (cond-true _ (record_set 0 r Q) Q (sym (fits_same 0 r) ∙ sym f))
+      ∙ sym (cond-true _ (record_set 0 r Q) Q (sym (allowed_same 0 r) ∙ sym f))
 
   pub refused : (r : Record) → false ≡ rewrite_allowed 0 r q → Q ≡ rewritten 0 r Q
-  refused r f = sym (cond-false _ (record_set 0 r Q) Q (sym (fits_same 0 r) ∙ sym f))
+  refused r f = sym (cond-false _ (record_set 0 r Q) Q (sym (allowed_same 0 r) ∙ sym f))
 
-  -- what was held is written below
+  -- a held record is written into the book below
   standing_some : (x : Option Order) (o : Order) → option_map Standing x ≡ Some (Standing o) → x ≡ Some o
   standing_some None o e = cc
   standing_some (Some x) o e = cc

@@ -1,5 +1,5 @@
--- A held record over a queue's first one.
-use Rattle.std.specs.Prelude.{◌≡◌, ℕ, zero, suc, Bool, true, false, cond, ◌||◌, List, [], ◌∷◌, length, Some, None, Option, slice_set, refl}
+-- A list with a held record in place of its first one: what each call finds in it.
+use Rattle.std.specs.Prelude.{◌≡◌, ℕ, zero, suc, Bool, true, false, cond, ◌||◌, List, [], ◌∷◌, Some, None, Option, slice_set, refl}
 use Rattle.std.proofs.Common.{ap, sym, ◌∙◌, arith}
 use Rattle.std.specs.List.{remove, slice_get, list_any}
 use Rattle.std.proofs.lemmas.Bool.Decides.{nat_tests}
@@ -24,11 +24,6 @@ module _ {X : Type 0} (f : X → Rank) where
       go : (b : Bool) → same_rank (f x) (f h) ≡ b → P (cond b (h ∷ xs) (x ∷ xs))
       go true w = t (rank_same (f x) (f h) w)
       go false w = e
-
-  pub over_length : (h : Option X) (xs : List X) → length (over f h xs) ≡ length xs
-  over_length None xs = refl
-  over_length (Some h) [] = refl
-  over_length (Some h) (x ∷ xs) = ways h x xs (λ l. length l ≡ suc (length xs)) (λ _. refl) refl
 
   pub over_later : (h : Option X) (xs : List X) (i : ℕ) → slice_get (over f h xs) (suc i) ≡ slice_get xs (suc i)
   over_later None xs i = refl
@@ -64,11 +59,11 @@ module _ {X : Type 0} (f : X → Rank) where
       go true = refl
       go false = refl
 
-  pub over_fits : (h : Option X) (xs : List X) (i : ℕ) (y : X) → swap_allowed f i y (over f h xs) ≡ swap_allowed f i y xs
-  over_fits None xs i y = refl
-  over_fits (Some h) [] i y = refl
-  over_fits (Some h) (x ∷ xs) zero y = ways h x xs (λ l. swap_allowed f 0 y l ≡ same_rank (f x) (f y)) (λ e. ap (λ z. same_rank z (f y)) (sym e)) refl
-  over_fits (Some h) (x ∷ xs) (suc i) y = ways h x xs (λ l. swap_allowed f (suc i) y l ≡ swap_allowed f i y xs) (λ _. refl) refl
+  pub over_allowed : (h : Option X) (xs : List X) (i : ℕ) (y : X) → swap_allowed f i y (over f h xs) ≡ swap_allowed f i y xs
+  over_allowed None xs i y = refl
+  over_allowed (Some h) [] i y = refl
+  over_allowed (Some h) (x ∷ xs) zero y = ways h x xs (λ l. swap_allowed f 0 y l ≡ same_rank (f x) (f y)) (λ e. ap (λ z. same_rank z (f y)) (sym e)) refl
+  over_allowed (Some h) (x ∷ xs) (suc i) y = ways h x xs (λ l. swap_allowed f (suc i) y l ≡ swap_allowed f i y xs) (λ _. refl) refl
 
   pub over_held : (h : Option X) (xs : List X) (y : X) → swap_allowed f 0 y xs ≡ true → over f (Some y) xs ≡ slice_set (over f h xs) 0 y
   over_held None xs y e = cond-true _ _ _ e
