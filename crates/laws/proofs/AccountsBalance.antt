@@ -1,4 +1,4 @@
--- Every lot is accounted for, every number is had once at most, and each order knows its quantity.
+-- Every lot is accounted for, no two orders have one number, and each order has the quantity that the tape says.
 use Rattle.std.proofs.Common.{◌≡◌, ℕ, ◌+◌, ◌-◌, ◌<◌, ◌≤◌, Bool, true, false, cond, eqb, ◌⊎◌, List, ◌++◌, None, sym, refl, ap, ◌∙◌, subst, inl, inr, ⊎_elim, arith}
 use Rattle.std.proofs.lemmas.Bool.{cond-true, eqb-true, eqb-false, eq-eqb, ne_eqb, cases_lt}
 use Rattle.orders.specs.declared.order.Order.{Order}
@@ -18,20 +18,22 @@ use Rattle.laws.proofs.EventsApply.{MayEnter, ChangesInto, MayApply, of_outcome,
 use Rattle.laws.specs.WithinRoom.{event_lines, event_stamps}
 use Rattle.laws.proofs.LinesAndStamps.{tape, RoomFor, tape_is, stamp_is}
 
+-- the open lots of a number
 abbrev pub lots_of : ℕ → Measure
 lots_of n p o = open_of n o
 
--- 1 for an order whose quantity is not what the tape says
+-- 1 for an order whose quantity is not what the tape says, else 0
 abbrev pub unknown : List Line → Measure
 unknown l p o = cond (eqb (quantity_of o.number l) o.quantity) 0 1
 
--- of the lines of a tape, the next stamp, and sums over all orders
+-- accounts of the lines of a tape, the next stamp, and sums over all orders
 pub record AccountedBy (l : List Line) (stamp : ℕ) (sum : Measure → ℕ) : Type 0 where
   pub balanced : (n : ℕ) → quantity_of n l ≡ total (traded_lots n) l + sum (lots_of n) + total (cancelled_lots n) l
   pub unused : (n : ℕ) → stamp ≤ n → quantity_of n l ≡ 0
   pub numbers_unique : (n : ℕ) → sum (with_number n) ≤ 1
   pub quantities_known : sum (unknown l) ≡ 0
 
+-- the tape, the next stamp and the orders of a match state are accounted for
 abbrev pub Accounted : MatchState → Type 0
 Accounted f = AccountedBy (tape f) f.session.next_stamp (λ g. everywhere g f)
 
@@ -42,13 +44,13 @@ by_number m n P same apart = go (eqb m n) refl
     go true e = same (eqb-true m n e)
     go false e = apart (eqb-false m n e)
 
--- a number that nobody has had stands nowhere
+-- a number that is not drawn yet is of no order
 pub unused_nowhere : (f : MatchState) → Accounted f → (n : ℕ) → f.session.next_stamp ≤ n → everywhere (with_number n) f ≡ 0
 unused_nowhere f k n l =
     let a = over_le f.queues f.incoming (with_number n) (lots_of n) (λ p o. by_number o.number n (λ b. cond b 1 0 ≤ cond b o.open_lots 0) (λ _. omega arith) (λ _. omega arith)) in
     omega (arith, k.balanced n, k.unused n l)
 
--- a number in use is below the next stamp
+-- the number of an order is below the next stamp
 pub used_below : (f : MatchState) → Accounted f → (n : ℕ) → 1 ≤ everywhere (with_number n) f → n < f.session.next_stamp
 used_below f k n h = ⊎_elim (λ (l : n < f.session.next_stamp). l) (λ (l : f.session.next_stamp ≤ n). absurd (omega (arith, unused_nowhere f k n l))) (cases_lt n f.session.next_stamp)
 
@@ -87,7 +89,7 @@ known_at l p o e = by_number (quantity_of o.number l) o.quantity (λ b. cond {A 
 at_known : (l : List Line) (p : Status) (o : Order) → quantity_of o.number l ≡ o.quantity → unknown l p o ≡ 0
 at_known l p o e = cond-true (eqb (quantity_of o.number l) o.quantity) 0 1 (eq-eqb (quantity_of o.number l) o.quantity e)
 
--- the order that is changed, and what is known of it
+-- the order that a change takes: its quantity is what the tape says, and its number is below the next stamp
 module _ (e : Event) (f : MatchState) (fit : MayApply e f) (k : Accounted f) (x : Order) (is : (g : Measure) → measure_out e f g ≡ g stands x) where
   was_known : quantity_of x.number (tape f) ≡ x.quantity
   was_known = known_at (tape f) stands x (omega (arith, before_event (unknown (tape f)) e f fit, is (unknown (tape f)), k.quantities_known))
@@ -99,13 +101,13 @@ module _ (e : Event) (f : MatchState) (fit : MayApply e f) (k : Accounted f) (x 
   replaced o w n = rw w.number (old_number x.number n o.quantity x.open_lots o.open_lots x.quantity (quantity_of n (tape f))
       (λ z. subst (λ m. quantity_of m (tape f) ≡ x.quantity) z was_known) w.account)
 
-pub amended_is : (i : ℕ) (o : Order) (f : MatchState) (h : MayApply (amends i o) f) (g : Measure) → measure_out (amends i o) f g ≡ g stands h.0.was
-amended_is i o f h g = ap (of_incoming (g stands)) h.0.there
+pub amended_out : (i : ℕ) (o : Order) (f : MatchState) (h : MayApply (amends i o) f) (g : Measure) → measure_out (amends i o) f g ≡ g stands h.0.was
+amended_out i o f h g = ap (of_incoming (g stands)) h.0.there
 
-pub requeued_is : (s : _) (i : ℕ) (o : Order) (f : MatchState) (h : MayApply (requeues s i o) f) (g : Measure) → measure_out (requeues s i o) f g ≡ g stands h.0.was
-requeued_is s i o f h g = ap (of_incoming (g stands)) h.0.there
+pub requeued_out : (s : _) (i : ℕ) (o : Order) (f : MatchState) (h : MayApply (requeues s i o) f) (g : Measure) → measure_out (requeues s i o) f g ≡ g stands h.0.was
+requeued_out s i o f h g = ap (of_incoming (g stands)) h.0.there
 
--- what an event writes, takes up and puts down balances, for each number
+-- what an event writes, takes out and puts in balances, for each number
 balance : (e : Event) (f : MatchState) → MayApply e f → Accounted f → (n : ℕ) →
     quantity_of n (event_lines e ++ tape f) + total (traded_lots n) (tape f) + total (cancelled_lots n) (tape f) + measure_out e f (lots_of n)
     ≡ quantity_of n (tape f) + total (traded_lots n) (event_lines e ++ tape f) + total (cancelled_lots n) (event_lines e ++ tape f) + measure_in e f (lots_of n)
@@ -119,8 +121,8 @@ balance (triggers s x) f h k n =
     let y : open_of n (order_refilled f.session.next_stamp 0 x.order) ≡ open_of n x.order = ap (counting n x.order.number)
     (let u : (order_refilled f.session.next_stamp 0 x.order).open_lots ≡ x.order.open_lots = omega arith in u) in
     omega arith
-balance (amends i o) f h k n = omega (arith, amended_is i o f h (lots_of n), replaced (amends i o) f h k h.0.was (amended_is i o f h) o h.0.changes n)
-balance (requeues s i o) f h k n = omega (arith, requeued_is s i o f h (lots_of n), replaced (requeues s i o) f h k h.0.was (requeued_is s i o f h) o h.0.changes n)
+balance (amends i o) f h k n = omega (arith, amended_out i o f h (lots_of n), replaced (amends i o) f h k h.0.was (amended_out i o f h) o h.0.changes n)
+balance (requeues s i o) f h k n = omega (arith, requeued_out s i o f h (lots_of n), replaced (requeues s i o) f h k h.0.was (requeued_out s i o f h) o h.0.changes n)
 balance _ f h k n = omega arith
 
 unused_apply : (e : Event) (f : MatchState) → MayApply e f → Accounted f → (n : ℕ) → f.session.next_stamp + event_stamps e ≤ n → quantity_of n (event_lines e ++ tape f) ≡ 0
@@ -129,14 +131,14 @@ unused_apply (accepts_stop x) f h k n l = rw (ne_eqb x.order.number n (λ e. ome
 unused_apply (accepts_and_cancels c o) f h k n l = rw (ne_eqb o.number n (λ e. omega (arith, h.new, e))) (k.unused n (omega arith))
 unused_apply (accepts_unmatched m lots) f h k n l = rw (ne_eqb m n (λ e. omega (arith, h.1, e))) (k.unused n (omega arith))
 unused_apply (amends i o) f h k n l =
-    let b = was_used (amends i o) f h k h.0.was (amended_is i o f h) in
+    let b = was_used (amends i o) f h k h.0.was (amended_out i o f h) in
     rw (ne_eqb o.number n (λ e. omega (arith, h.0.changes.number, e))) (k.unused n (omega arith))
 unused_apply (requeues s i o) f h k n l =
-    let b = was_used (requeues s i o) f h k h.0.was (requeued_is s i o f h) in
+    let b = was_used (requeues s i o) f h k h.0.was (requeued_out s i o f h) in
     rw (ne_eqb o.number n (λ e. omega (arith, h.0.changes.number, e))) (k.unused n (omega arith))
 unused_apply _ f h k n l = k.unused n (omega arith)
 
--- numbers after a trade are the numbers before
+-- a trade gives no order a new number
 incoming_left_number : (n lots : ℕ) (o : Order) → lots ≤ o.open_lots → of_incoming (with_number n incoming) (incoming_left lots o) ≤ with_number n incoming o
 incoming_left_number n lots o h = incoming_left_cases lots o (λ m. of_incoming (with_number n incoming) m ≤ with_number n incoming o) h (λ _. omega arith) (λ _. omega arith)
 
@@ -145,6 +147,7 @@ outcome_number n lots stamp filled r = omega arith
 outcome_number n lots stamp refilled r = omega arith
 outcome_number n lots stamp reduced r = omega arith
 
+-- an event adds no order of a number, or there was none
 abbrev NumberStaysUnique : ℕ → Event → MatchState → Type 0
 NumberStaysUnique n e f = (measure_in e f (with_number n) ≤ measure_out e f (with_number n)) ⊎ (everywhere (with_number n) f + measure_in e f (with_number n) ≤ 1)
 
@@ -155,12 +158,12 @@ unique_after : (e : Event) (f : MatchState) → MayApply e f → Accounted f →
 unique_after (accepts o) f h k n = unique_new o.number n f h.new k
 unique_after (accepts_stop x) f h k n = unique_new x.order.number n f h.enters.new k
 unique_after (trades o r) f h k n = inl (omega (arith, incoming_left_number n (trade_lots o r) o (omega arith), outcome_number n (trade_lots o r) f.session.next_stamp (outcome (trade_lots o r) r) r))
-unique_after (amends i o) f h k n = inl (let z : with_number n stands o ≡ with_number n stands h.0.was = ap (λ m. counting n m 1) h.0.changes.number in omega (arith, amended_is i o f h (with_number n)))
+unique_after (amends i o) f h k n = inl (let z : with_number n stands o ≡ with_number n stands h.0.was = ap (λ m. counting n m 1) h.0.changes.number in omega (arith, amended_out i o f h (with_number n)))
 unique_after (requeues s i o) f h k n = inl (let z : with_number n incoming o ≡ with_number n stands h.0.was = ap (λ m. counting n m 1)
-    h.0.changes.number in omega (arith, requeued_is s i o f h (with_number n)))
+    h.0.changes.number in omega (arith, requeued_out s i o f h (with_number n)))
 unique_after _ f h k n = inl (omega arith)
 
--- what is not known after a line A or R of number m either was not known or has that number
+-- a quantity that is not what the tape says after a line A or R of number m was not so before, or is of that number
 abbrev unknown_after : (m lots : ℕ) → List Line → Measure
 unknown_after m lots l p o = cond (eqb (cond (eqb m o.number) lots (quantity_of o.number l)) o.quantity) 0 1
 
@@ -174,30 +177,30 @@ still_known m lots l p o =
     at_most true = omega arith
     at_most false = omega arith
 
-known_new : (l : List Line) (p : Status) (o : Order) → unknown_after o.number o.quantity l p o ≡ 0
-known_new l p o =
+new_known : (l : List Line) (p : Status) (o : Order) → unknown_after o.number o.quantity l p o ≡ 0
+new_known l p o =
     rw (cond-true (eqb o.number o.number) o.quantity (quantity_of o.number l) (eq-eqb o.number o.number refl), eq-eqb o.quantity o.quantity refl) refl
 
 module _ (e : Event) (f : MatchState) (fit : MayApply e f) (k : Accounted f) where
-  rest_known : measure_untouched (unknown (tape f)) e f ≡ 0
-  rest_known = omega (arith, before_event (unknown (tape f)) e f fit, k.quantities_known)
+  untouched_known : measure_untouched (unknown (tape f)) e f ≡ 0
+  untouched_known = omega (arith, before_event (unknown (tape f)) e f fit, k.quantities_known)
 
-  gone_known : measure_out e f (unknown (tape f)) ≡ 0
-  gone_known = omega (arith, before_event (unknown (tape f)) e f fit, k.quantities_known)
+  out_known : measure_out e f (unknown (tape f)) ≡ 0
+  out_known = omega (arith, before_event (unknown (tape f)) e f fit, k.quantities_known)
 
-  rest_new : (m : ℕ) → m ≡ f.session.next_stamp → measure_untouched (with_number m) e f ≡ 0
-  rest_new m z = omega (arith, before_event (with_number m) e f fit, unused_nowhere f k m (omega arith))
+  untouched_new : (m : ℕ) → m ≡ f.session.next_stamp → measure_untouched (with_number m) e f ≡ 0
+  untouched_new m z = omega (arith, before_event (with_number m) e f fit, unused_nowhere f k m (omega arith))
 
-  -- the orders left alone are still known after a line A or R of a number that none of them has
-  rest_still : (m lots : ℕ) → measure_untouched (with_number m) e f ≡ 0 → measure_untouched (unknown_after m lots (tape f)) e f ≡ 0
-  rest_still m lots z =
+  -- a line A or R of a number that no untouched order has leaves their quantities as the tape says
+  untouched_still_known : (m lots : ℕ) → measure_untouched (with_number m) e f ≡ 0 → measure_untouched (unknown_after m lots (tape f)) e f ≡ 0
+  untouched_still_known m lots z =
       let q : Queues = untouched_queues e f in
       let w : Measure = λ p o. unknown (tape f) p o + with_number m p o in
-      omega (arith, over_le q None (unknown_after m lots (tape f)) w (still_known m lots (tape f)), over_plus q None (unknown (tape f)) (with_number m), rest_known)
+      omega (arith, over_le q None (unknown_after m lots (tape f)) w (still_known m lots (tape f)), over_plus q None (unknown (tape f)) (with_number m), untouched_known)
 
-  -- the orders that an event leaves alone have other numbers than the one that it takes up
-  pub rest_other : (m : ℕ) → 1 ≤ measure_out e f (with_number m) → measure_untouched (with_number m) e f ≡ 0
-  rest_other m h = omega (arith, before_event (with_number m) e f fit, k.numbers_unique m)
+  -- the orders that an event leaves untouched have other numbers than the one that it takes out
+  pub untouched_unnumbered : (m : ℕ) → 1 ≤ measure_out e f (with_number m) → measure_untouched (with_number m) e f ≡ 0
+  untouched_unnumbered m h = omega (arith, before_event (with_number m) e f fit, k.numbers_unique m)
 
 incoming_left_known : (l : List Line) (lots : ℕ) (o : Order) → lots ≤ o.open_lots → unknown l incoming o ≡ 0 → of_incoming (unknown l incoming) (incoming_left lots o) ≡ 0
 incoming_left_known l lots o h e = incoming_left_cases lots o (λ m. of_incoming (unknown l incoming) m ≡ 0) h (λ _. refl)
@@ -211,46 +214,46 @@ outcome_known l lots stamp r h e = outcome_cases lots r (λ k. of_outcome (unkno
 known_apply : (e : Event) (f : MatchState) → MayApply e f → Accounted f → measure_untouched (unknown (event_lines e ++ tape f)) e f + measure_in e f (unknown (event_lines e ++ tape f)) ≡ 0
 known_apply (accepts o) f h k =
     let e : Event = accepts o in
-    omega (arith, rest_still e f h k o.number o.quantity (rest_new e f h k o.number h.new), known_new (tape f) incoming o)
+    omega (arith, untouched_still_known e f h k o.number o.quantity (untouched_new e f h k o.number h.new), new_known (tape f) incoming o)
 known_apply (accepts_stop x) f h k =
     let e : Event = accepts_stop x in
     let o : Order = x.order in
-    omega (arith, rest_still e f h k o.number o.quantity (rest_new e f h k o.number h.enters.new), known_new (tape f) waits o)
+    omega (arith, untouched_still_known e f h k o.number o.quantity (untouched_new e f h k o.number h.enters.new), new_known (tape f) waits o)
 known_apply (accepts_and_cancels c o) f h k =
     let e : Event = accepts_and_cancels c o in
-    omega (arith, rest_still e f h k o.number o.quantity (rest_new e f h k o.number h.new))
+    omega (arith, untouched_still_known e f h k o.number o.quantity (untouched_new e f h k o.number h.new))
 known_apply (accepts_unmatched m lots) f h k =
     let e : Event = accepts_unmatched m lots in
-    omega (arith, rest_still e f h k m lots (rest_new e f h k m h.1))
-known_apply (cancels_incoming c o) f h k = omega (arith, rest_known (cancels_incoming c o) f h k)
+    omega (arith, untouched_still_known e f h k m lots (untouched_new e f h k m h.1))
+known_apply (cancels_incoming c o) f h k = omega (arith, untouched_known (cancels_incoming c o) f h k)
 known_apply (trades o r) f h k =
-    let g = gone_known (trades o r) f h k in
-    omega (arith, rest_known (trades o r) f h k, incoming_left_known (tape f) (trade_lots o r) o (omega arith) (omega arith), outcome_known (tape f) (trade_lots o r) f.session.next_stamp r (omega arith) (omega arith))
-known_apply (rests o) f h k = omega (arith, rest_known (rests o) f h k, gone_known (rests o) f h k)
+    let g = out_known (trades o r) f h k in
+    omega (arith, untouched_known (trades o r) f h k, incoming_left_known (tape f) (trade_lots o r) o (omega arith) (omega arith), outcome_known (tape f) (trade_lots o r) f.session.next_stamp r (omega arith) (omega arith))
+known_apply (rests o) f h k = omega (arith, untouched_known (rests o) f h k, out_known (rests o) f h k)
 known_apply (triggers s x) f h k =
     let o : Order = x.order in
-    let w = known_at (tape f) waits o (gone_known (triggers s x) f h k) in
+    let w = known_at (tape f) waits o (out_known (triggers s x) f h k) in
     omega (
       arith,
-      rest_known (triggers s x) f h k,
+      untouched_known (triggers s x) f h k,
       at_known (tape f) incoming (order_refilled f.session.next_stamp 0 o)
           (w ∙ sym (ap (λ (r : OrderRow). r.quantity) (refilled_row f.session.next_stamp 0 o (omega arith)))),
     )
-known_apply (cancels_resting c m i r) f h k = omega (arith, rest_known (cancels_resting c m i r) f h k)
+known_apply (cancels_resting c m i r) f h k = omega (arith, untouched_known (cancels_resting c m i r) f h k)
 known_apply (amends i o) f h k =
     let e : Event = amends i o in
     let x : Order = h.0.was in
     let one : with_number o.number stands x ≡ 1 = rw h.0.changes.number (counts_itself stands x) in
-    let alone = rest_other e f h k o.number (omega (arith, amended_is i o f h (with_number o.number))) in
-    omega (arith, rest_still e f h k o.number o.quantity alone, known_new (tape f) stands o)
+    let alone = untouched_unnumbered e f h k o.number (omega (arith, amended_out i o f h (with_number o.number))) in
+    omega (arith, untouched_still_known e f h k o.number o.quantity alone, new_known (tape f) stands o)
 known_apply (requeues s i o) f h k =
     let e : Event = requeues s i o in
     let x : Order = h.0.was in
     let one : with_number o.number stands x ≡ 1 = rw h.0.changes.number (counts_itself stands x) in
-    let alone = rest_other e f h k o.number (omega (arith, requeued_is s i o f h (with_number o.number))) in
-    omega (arith, rest_still e f h k o.number o.quantity alone, known_new (tape f) incoming o)
+    let alone = untouched_unnumbered e f h k o.number (omega (arith, requeued_out s i o f h (with_number o.number))) in
+    omega (arith, untouched_still_known e f h k o.number o.quantity alone, new_known (tape f) incoming o)
 
--- each event leaves all accounted for
+-- each event leaves every lot accounted for
 pub accounted_apply : (e : Event) (f : MatchState) → MayApply e f → RoomFor e f → ConsistentQueues f.queues → Accounted f → Accounted (apply e f)
 accounted_apply e f h room g k =
     let s : NumbersUnique f = k.numbers_unique in

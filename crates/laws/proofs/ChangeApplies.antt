@@ -1,4 +1,4 @@
--- A change: the changed order is as it was meant, its event fits, and the tally notes it.
+-- A change: the changed order is as the change asks, its event may apply, and the tally agrees with it.
 use Rattle.std.proofs.Common.{◌≡◌, ℕ, ◌<◌, ◌≤◌, min, true, false, cond, not, ◌||◌, eqb, ltb, Some, Option, sym, refl, ap, ◌∙◌, arith}
 use Rattle.std.specs.List.{slice_get}
 use Rattle.std.proofs.lemmas.Bool.{cond-true, cond-false, or_parts, not-false, eqb-true, eq-eqb, ltb-false}
@@ -22,7 +22,7 @@ use Rattle.laws.proofs.LinesAndStamps.{RoomFor, stamp_is}
 use Rattle.laws.proofs.RunsToRest.{Quiescent}
 use Rattle.laws.proofs.TallyAgrees.{RowMeasure, of_tally_row, as_tally_row, tally_row, on_account, on_account_if, adjusted_measure, TallyAgrees, named_is, one_adjusted, one_only}
 
--- what the checks of a change give
+-- what the checks of a change give (rules 13)
 pub record ValidChange (c : Amendment) (o : Order) : Type 0 where
   pub above : lots_traded o < new_quantity c o
   pub allowed : QuantityAllowed (new_quantity c o) (new_disclosed c o)
@@ -34,6 +34,7 @@ requeued_row stamp c o p =
     let r : OrderRow = changed_row c stamp (showing (new_disclosed c o) (new_open_lots c o)) (row_of o) in
     reads_back r (shown_in_full_in_bounds r refl (omega (arith, p.above)) (omega (arith, p.above)) p.allowed)
 
+-- a change that does not lose the turn
 pub record KeepsTurn (c : Amendment) (o : Order) : Type 0 where
   pub price : new_price c o ≡ o.price
   pub fewer : new_quantity c o ≤ o.quantity
@@ -64,7 +65,7 @@ amended_row c o p e =
       hidden_within_parts = λ z. omega (arith, p.above, k.fewer, k.disclosed, o.hidden_within_parts (omega (arith, k.disclosed, z)));
     })
 
--- traded lots are the same
+-- the lots already traded stay
 changes_requeued : (stamp : ℕ) (c : Amendment) (o : Order) → ValidChange c o → ChangesInto o (requeued_order stamp c o)
 changes_requeued stamp c o p =
     let e = requeued_row stamp c o p in

@@ -1,4 +1,4 @@
--- Good queues: within their capacities, in rank order, each record in the queue of its side, and no bid at or above an offer.
+-- Consistent queues: within their capacities, in rank order, each record in the queue of its side, and no bid at or above an offer.
 use Rattle.std.proofs.Common.{◌≡◌, ℕ, ◌<◌, ◌≤◌, false, leb, List, [], ◌∷◌, length, set, Some, sym, refl, ap, subst, arith}
 use Rattle.std.specs.List.{remove, AllByRecursion, slice_get}
 use Rattle.std.proofs.lemmas.Bool.{leb-false, lt-leb}
@@ -22,23 +22,25 @@ use Rattle.books.specs.Model.{Both, Queues, at, with_at, with_stands, with_waits
 use Rattle.laws.specs.Quiescence.{Uncrossed}
 use Rattle.laws.proofs.SortedLists.{Sorted, length_removed, all_removed, all_nth, sorted_removed, length_put_in, all_put_in, sorted_put_in, length_rewritten, all_rewritten, sorted_set}
 
--- a price that a rank can tell
+-- a price that fits the key of a rank
 abbrev pub InPriceRange : Price → Type 0
 InPriceRange p = level p ≤ 4294967295
 
--- a price is its level
+-- prices of one level are one price
 pub price_same : (p q : Price) → level p ≡ level q → p ≡ q
 price_same p q e = ap as_price e
   where
     as_price : ℕ → Price
     as_price n = record { hundredths = n }
 
+-- an order, and a stop, of this side, whose prices fit a rank
 abbrev pub OnSide : Side → Order → Type 0
 OnSide s o = (o.side ≡ s) × InPriceRange o.price
 
 abbrev pub StopOnSide : Side → Stop → Type 0
 StopOnSide s x = (x.order.side ≡ s) × InPriceRange x.order.price × InPriceRange x.trigger
 
+-- what holds of the queues at all times
 pub record ConsistentQueues (q : Queues) : Type 0 where
   pub bounded : (n : Queue) → count n q ≤ capacity n q
   pub sorted : (s : Side) → Sorted rank_of (at s q.stands)
@@ -47,18 +49,18 @@ pub record ConsistentQueues (q : Queues) : Type 0 where
   pub stops_on_side : (s : Side) → AllByRecursion (StopOnSide s) (at s q.waits)
   pub uncrossed : Uncrossed q.stands
 
--- one side changes, and the other stays
+-- what holds of a changed side and of the other as it was holds of both
 pub at_with : {A : Type 0} (P : Side → A → Type 0) (s : Side) (a : A) (b : Both A) → P s a → ((t : Side) → P t (at t b)) → (t : Side) → P t (at t (with_at s a b))
 at_with P Buy a b h k Buy = h
 at_with P Buy a b h k Sell = k Sell
 at_with P Sell a b h k Buy = k Buy
 at_with P Sell a b h k Sell = h
 
-pub at_own : {A : Type 0} (s : Side) (a : A) (b : Both A) → at s (with_at s a b) ≡ a
-at_own Buy a b = refl
-at_own Sell a b = refl
+pub at_same_side : {A : Type 0} (s : Side) (a : A) (b : Both A) → at s (with_at s a b) ≡ a
+at_same_side Buy a b = refl
+at_same_side Sell a b = refl
 
--- an order of this side meets nobody of the other
+-- no opposite order is within the price of an order of this side
 abbrev pub CrossesNone : Side → Both (List Order) → Order → Type 0
 CrossesNone Buy b o = AllByRecursion (λ (y : Order). level o.price < level y.price) b.sell
 CrossesNone Sell b o = AllByRecursion (λ (x : Order). level x.price < level o.price) b.buy
@@ -105,7 +107,7 @@ queues_waits s l q g n o d = record {
   uncrossed = g.uncrossed;
 }
 
--- after a take
+-- the queues after a take
 pub queues_removed : (s : Side) (i : ℕ) (o : Order) (q : Queues) → slice_get (at s q.stands) i ≡ Some o → ConsistentQueues q → ConsistentQueues (taken (Orders s) i q)
 queues_removed s i o q e g =
     queues_stands s (remove (at s q.stands) i) q g (omega (arith, length_removed (at s q.stands) i o e, g.bounded (Orders s)))
@@ -117,7 +119,7 @@ queues_stop_removed s i x q e g =
     queues_waits s (remove (at s q.waits) i) q g (omega (arith, length_removed (at s q.waits) i x e, g.bounded (Stops s)))
     (sorted_removed stop_rank_of (at s q.waits) i (g.stops_sorted s)) (all_removed (StopOnSide s) (at s q.waits) i (g.stops_on_side s))
 
--- after a put
+-- the queues after a put
 pub queues_put : (o : Order) (q : Queues) → count (Orders o.side) q < capacity (Orders o.side) q → InPriceRange o.price → CrossesNone o.side q.stands o → ConsistentQueues q →
     ConsistentQueues (inserted (Standing o) q)
 queues_put o q n p c g =
@@ -134,7 +136,7 @@ queues_stop_put x q n p t g =
     queues_waits s (put_by_rank stop_rank_of x l) q g (omega (arith, length_put_in stop_rank_of x l)) (sorted_put_in stop_rank_of x l (g.stops_sorted s))
     (all_put_in stop_rank_of (StopOnSide s) x l (refl, p, t) (g.stops_on_side s))
 
--- one order stands in the place of another
+-- an order may be rewritten as another of the same side, price, turn and number
 pub record SameRank (x o : Order) : Type 0 where
   pub side : o.side ≡ x.side
   pub price : o.price ≡ x.price
@@ -158,7 +160,7 @@ queues_set i x o q e h g =
     (all_rewritten (OnSide s) l i o (refl, subst InPriceRange (sym h.price) d.1) (g.on_side s))
     (all_rewritten (CrossesNone s q.stands) l i o (same_crosses_none s q.stands x o h.price (all_nth (CrossesNone s q.stands) l i x e c)) c)
 
--- a standing order is clear, also of what is left when it is taken
+-- a standing order crosses no opposite one, also when its own queue changes
 pub nth_crosses_none : (s : Side) (i : ℕ) (o : Order) (q : Queues) → slice_get (at s q.stands) i ≡ Some o → ConsistentQueues q → CrossesNone s q.stands o
 nth_crosses_none s i o q e g = all_nth (CrossesNone s q.stands) (at s q.stands) i o e (all_cross_none s q.stands g.uncrossed)
 
@@ -166,7 +168,7 @@ pub crosses_none_own : (s : Side) (l : List Order) (b : Both (List Order)) (o : 
 crosses_none_own Buy l b o h = h
 crosses_none_own Sell l b o h = h
 
--- a limit meets none of these
+-- none of these orders is within the limit
 abbrev pub NoneWithinLimit : Side → Price → List Order → Type 0
 NoneWithinLimit s limit l = AllByRecursion (λ (a : Order). within_limit s limit a.price ≡ false) l
 
@@ -176,7 +178,7 @@ none_within_crosses_none o Buy b h = All-weaker (λ (a : Order). leb (level a.pr
 none_within_crosses_none o Sell b h = All-weaker (λ (a : Order). leb (level o.price) (level a.price) ≡ false) (λ (a : Order). level a.price < level o.price)
     (λ a. leb-false (level o.price) (level a.price)) b.buy h
 
--- what ranks behind the first is priced no better
+-- what does not rank ahead of an order is priced no better
 pub ranks_lower : (a b : Rank) → ranks_ahead b a ≡ false → a.key ≤ b.key
 ranks_lower a b h = grind (arith, nat_tests)
 

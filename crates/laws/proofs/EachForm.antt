@@ -1,4 +1,4 @@
--- Each form on an open day: a refused step changes nothing, an accepted one goes by the laws.
+-- Each form on an open day: a refused step changes nothing, and the laws hold after an accepted one.
 use Rattle.std.proofs.Common.{◌≡◌, ℕ, ◌+◌, ◌<◌, ◌≤◌, false, eqb, ltb, leb, List, [], ◌++◌, length, Some, None, Ok, Err, Option, Result, unwrap_or, sym, refl, ap, ◌∙◌, subst, arith}
 use Rattle.std.specs.List.{slice_get}
 use Rattle.std.proofs.lemmas.Bool.{cond_both, ltb-false, leb-false}
@@ -56,7 +56,7 @@ use Rattle.laws.proofs.RemovalsApply.{RoomForRemovals, found_record_at, after_on
 use Rattle.laws.proofs.WholeSteps.{AfterAccepted, accepted_removals, accepted_entry, accepted_change}
 use Rattle.laws.proofs.ValidatedRanges.{IfOk, IfSome, ok_then, entry_ok, ChangeInRanges, change_ok, allowed_from, any_ok}
 
--- what a step leaves, by its answer
+-- what holds after a step, by its answer
 pub record AfterStep (form : Form) (t : Tally) (f : MatchState) (r : Result (Unit {0}) Refusal) (g : MatchState) : Type 0 where
   pub quiescent : Quiescent g
   pub lines : List Line
@@ -82,13 +82,13 @@ after_step_accepted form t f g h = record {
   trace = h.trace;
 }
 
--- a step whose checks gave what it needs
+-- a step is refused and changes nothing, or its checks give what its action needs
 after_step_of : {A : Type 0} (form : Form) (f : MatchState) (t : Tally) (P : A → Type 0) (act : A → MatchState → MatchState) (r : Result A Refusal) → Quiescent f → TallyAgrees t f →
     IfOk P r → ((x : A) → P x → AfterAccepted (request form) t f (act x f)) → AfterStep form t f (answered r) (after_answer act r f)
 after_step_of form f t P act (Ok x) c m h accepted = after_step_accepted form t f (act x f) (accepted x h)
 after_step_of form f t P act (Err e) c m h accepted = after_step_unchanged form t f (Err e) c m
 
--- what each check gives
+-- what holds where a check passes
 
 pub ok_is : {A : Type 0} (P : A → Type 0) (r : Result A Refusal) → IfOk P r → IfOk (λ x. P x × (r ≡ Ok x)) r
 ok_is P (Ok x) h = (h, refl)
@@ -102,6 +102,7 @@ stamps_ok : (f : MatchState) → IfOk (λ _. f.session.next_stamp + needed f.que
 stamps_ok f = cond_both (ltb (undrawn_stamps f.session) (needed f.queues)) (Err NoStamps) (Ok tt) (IfOk (λ _. f.session.next_stamp + needed f.queues ≤ 1000000000))
     (λ _. tt) (λ e. omega (arith, ltb-false (undrawn_stamps f.session) (needed f.queues) e))
 
+-- a record has the place where it was found
 abbrev FoundAt : Queues → Found → Type 0
 FoundAt q x = look_at x.queue x.at q ≡ Some x.«record»
 
@@ -118,6 +119,7 @@ found_ok firm number q = go (found number q)
 
 -- entry
 
+-- what an accepted entry's checks give
 abbrev pub EntryGiven : EntryForm → MatchState → NewOrder → Type 0
 EntryGiven form f a = ValidEntry a × RoomForStep f × (validate_entry form ≡ Ok a)
 
@@ -137,7 +139,7 @@ after_step_entry form f t c m =
 
 -- change
 
--- an order that was looked up stands in the queue of its side
+-- an order that was found stands in the queue of its side
 found_stands : (n : Queue) (i : ℕ) (r : Record) (o : Order) (q : Queues) → r ≡ Standing o → RecordAt n i r q → ConsistentQueues q →
     (slice_get (at o.side q.stands) i ≡ Some o) × InPriceRange o.price
 found_stands (Orders s) i r o q e h g =
@@ -180,6 +182,7 @@ valid_change c o w l a d = record {
   price_in_range = new_in_range c.price o.price w.price l;
 }
 
+-- what an accepted change's checks give
 abbrev pub ChangeGiven : ChangeForm → MatchState → AmendPlan → Type 0
 ChangeGiven form f p = ValidChange p.change p.order × RoomForStep f × (slice_get (at p.order.side f.queues.stands) p.at ≡ Some p.order) × (request (ChangeStep form) ≡ change p.change)
 

@@ -1,4 +1,4 @@
--- An entry: its arrival fits, and the tally notes it.
+-- An entry: its first event may apply, and the tally agrees with it.
 use Rattle.std.proofs.Common.{◌≡◌, ℕ, ◌+◌, ◌-◌, ◌≤◌, false, ◌&&◌, ◌||◌, ltb, eqb, List, [], ◌∷◌, Some, None, Option, unwrap_or, sym, refl, ap, ◌∙◌, subst, arith, Ok, Err}
 use Rattle.std.specs.List.{AllByRecursion, slice_get}
 use Rattle.std.specs.Option.{option_map}
@@ -34,12 +34,13 @@ use Rattle.laws.proofs.RunsToRest.{Quiescent, put_found_place}
 use Rattle.laws.proofs.TallyAgrees.{RowMeasure, of_tally_row, as_tally_row, tally_row, on_account, on_account_if, adjusted_measure, TallyAgrees, total_adjust, unnamed_stays}
 use Rattle.laws.proofs.FirstPrices.{price_of_first, first_price_is}
 
--- the prices of an entry are such as a rank can tell
+-- the prices of an entry fit the key of a rank
 abbrev pub PricesInRange : OrderType → Type 0
 PricesInRange (Limit price) = InPriceRange price
 PricesInRange Market = Unit {0}
 PricesInRange (StopLimit limit trigger) = InPriceRange limit × InPriceRange trigger
 
+-- what the checks of an entry give (rules 8)
 pub record ValidEntry (a : NewOrder) : Type 0 where
   pub allowed : QuantityAllowed a.quantity a.disclosed
   pub price_in_range : PricesInRange a.order_type
@@ -77,7 +78,7 @@ may_apply_arrival_as (StopLimit limit trigger) a f l p c =
 pub may_apply_arrival : (a : NewOrder) (f : MatchState) → ValidEntry a → Quiescent f → MayApply (arrival a f.session.next_stamp f.queues) f
 may_apply_arrival a f p c = may_apply_arrival_as a.order_type a f p.price_in_range p c
 
--- no trade is among the lines of an arrival
+-- the lines of an entry's first event have no trade that is not fair
 abbrev NoTrade : Request → Tally → Event → Type 0
 NoTrade q t e = FairLines q (event_lines e) t
 
@@ -101,7 +102,7 @@ no_trade_arrival_as (StopLimit limit trigger) a stamp q t = go (put_answer (Wait
 pub no_trade_arrival : (a : NewOrder) (stamp : ℕ) (q : Queues) (t : Tally) → NoTrade (entry a) t (arrival a stamp q)
 no_trade_arrival a stamp q t = no_trade_arrival_as a.order_type a stamp q t
 
--- the tally gets the entry's order
+-- the tally has the entry's order
 
 pub entered_tally_row : (a : NewOrder) (price : Price) (p : Status) (stamp : ℕ) → ValidEntry a →
     ((n : ℕ) → as_tally_row p (entered_row a price stamp) ≡ entered_account_row a price stamp stamp) → (turn : ℕ) → turn ≡ stamp →
@@ -109,18 +110,18 @@ pub entered_tally_row : (a : NewOrder) (price : Price) (p : Status) (stamp : ℕ
 entered_tally_row a price p stamp h e turn z = ap (entered_account_row a price stamp) z ∙ (sym (e 0) ∙ sym (ap (as_tally_row p) (order_from_row a price stamp h.allowed)))
 
 module _ (a : NewOrder) (f : MatchState) (t : Tally) (pr : ValidEntry a) (c : Quiescent f) (m : TallyAgrees t f) where
-  -- an order joins the accounts
+  -- an event that only puts an order in adds its account
   account_joins : (e : Event) (p : Status) (x : Order) (r : OrderRow) → MayApply e f → ((g : Measure) → measure_out e f g ≡ 0) → ((g : Measure) → measure_in e f g ≡ g p x) →
       r ≡ tally_row p x → (g : RowMeasure) → total (on_account g) (account p r ∷ t.accounts) ≡ everywhere (of_tally_row g) (apply e f)
   account_joins e p x r fit none one is g =
       let z : g p r ≡ g p (tally_row p x) = ap (g p) is in
       omega (arith, m.sums g, before_event (of_tally_row g) e f fit, after_event (of_tally_row g) e f fit c.consistent.queues c.consistent.accounted.numbers_unique, none (of_tally_row g), one (of_tally_row g))
 
-  -- an order joins the accounts and leaves them at once
-  passes : (e : Event) (p : Status) (r : OrderRow) (n lots turn : ℕ) → MayApply e f → ((g : Measure) → measure_out e f g ≡ 0) → ((g : Measure) → measure_in e f g ≡ 0) →
+  -- an event whose order is cancelled at once leaves the accounts as they were
+  account_passes : (e : Event) (p : Status) (r : OrderRow) (n lots turn : ℕ) → MayApply e f → ((g : Measure) → measure_out e f g ≡ 0) → ((g : Measure) → measure_in e f g ≡ 0) →
       r.number ≡ n → n ≡ f.session.next_stamp → r.open_lots ≡ lots →
       (g : RowMeasure) → total (on_account g) (adjust (λ a. only (numbered n a) (take_off lots turn a) a) (account p r ∷ t.accounts)) ≡ everywhere (of_tally_row g) (apply e f)
-  passes e p r n lots turn fit none also num new all g =
+  account_passes e p r n lots turn fit none also num new all g =
       let h : Account → Option Account = λ a. only (numbered n a) (take_off lots turn a) a in
       let off : h (account p r) ≡ None = cond-true (eqb r.number n) (take_off lots turn (account p r)) (Some (account p r)) (eq-eqb r.number n num)
       ∙ cond-true (eqb (r.open_lots - lots) 0) None (Some (account p (refilled_if (shown_ran_out p (lots_off lots r)) turn (lots_off lots r)))) (eq-eqb (r.open_lots - lots) 0 (omega arith)) in
@@ -137,6 +138,7 @@ module _ (a : NewOrder) (f : MatchState) (t : Tally) (pr : ValidEntry a) (c : Qu
         also (of_tally_row g),
       )
 
+  -- the tally agrees after an entry's first event
   abbrev AgreesAfter : Event → Type 0
   AgreesAfter e = MayApply e f → RoomFor e f → TallyAgrees (noted (entry a) (event_lines e) t) (apply e f)
 
@@ -149,7 +151,7 @@ module _ (a : NewOrder) (f : MatchState) (t : Tally) (pr : ValidEntry a) (c : Qu
       let o : Order = entered_order a price f.session.next_stamp in
       let e : Event = accepts_and_cancels cause o in
       record {
-        sums = passes e (status_as a.order_type) (entered_account_row a (limit_as a.order_type a.side t.accounts) o.number t.turn) o.number o.open_lots
+        sums = account_passes e (status_as a.order_type) (entered_account_row a (limit_as a.order_type a.side t.accounts) o.number t.turn) o.number o.open_lots
             (t.turn + 1) fit (λ g. refl) (λ g. refl) refl refl (sym (whole price));
         turns = omega (arith, m.turns, stamp_is e f room);
       }
@@ -178,7 +180,7 @@ module _ (a : NewOrder) (f : MatchState) (t : Tally) (pr : ValidEntry a) (c : Qu
   tally_agrees_market k [] e fit room =
       let ev : Event = accepts_unmatched f.session.next_stamp a.quantity in
       record {
-        sums = passes ev (status_as a.order_type) (entered_account_row a (limit_as a.order_type a.side t.accounts) f.session.next_stamp t.turn) f.session.next_stamp
+        sums = account_passes ev (status_as a.order_type) (entered_account_row a (limit_as a.order_type a.side t.accounts) f.session.next_stamp t.turn) f.session.next_stamp
             a.quantity (t.turn + 1) fit (λ g. refl) (λ g. refl) refl refl refl;
         turns = omega (arith, m.turns, stamp_is ev f room);
       }

@@ -1,4 +1,4 @@
--- When an event may happen, what goes with it and what comes, and that it leaves good queues.
+-- When an event may apply, which orders it takes out and puts in, and that it leaves consistent queues.
 use Rattle.std.proofs.Common.{◌≡◌, ℕ, suc, ◌+◌, ◌<◌, ◌≤◌, true, List, length, Some, None, Option, sym, refl, ap, ◌∙◌, subst, arith, Ok}
 use Rattle.std.specs.List.{remove, slice_get}
 use Rattle.std.proofs.lemmas.Bool.{cond-true, eq-eqb}
@@ -21,10 +21,10 @@ use Rattle.matching.proofs.OutcomeCases.{incoming_left_cases}
 use Rattle.laws.specs.Tally.{Status, stands, waits, incoming}
 use Rattle.laws.proofs.SortedLists.{length_removed, all_nth}
 use Rattle.laws.proofs.RowsInBounds.{ShowsInFull, refilled_shows}
-use Rattle.laws.proofs.ConsistentQueues.{InPriceRange, OnSide, StopOnSide, ConsistentQueues, NoneWithinLimit, SameRank, at_own, queues_removed, queues_stop_removed, queues_put, queues_stop_put, queues_set, nth_crosses_none, none_within_crosses_none, same_crosses_none, same_order_rank, crosses_none_own}
+use Rattle.laws.proofs.ConsistentQueues.{InPriceRange, OnSide, StopOnSide, ConsistentQueues, NoneWithinLimit, SameRank, at_same_side, queues_removed, queues_stop_removed, queues_put, queues_stop_put, queues_set, nth_crosses_none, none_within_crosses_none, same_crosses_none, same_order_rank, crosses_none_own}
 use Rattle.laws.proofs.SumsOverOrders.{Measure, queued, of_incoming, over, everywhere, with_number, queued_removed, queued_stop_removed, queued_put, queued_stop_put, queued_set, put_done}
 
--- a new order, wholly open, under the next stamp
+-- an order may be entered: it is wholly open, with the next stamp as number and turn
 pub record MayEnter (o : Order) (f : MatchState) : Type 0 where
   pub idle : f.incoming ≡ None
   pub new : o.number ≡ f.session.next_stamp
@@ -33,44 +33,49 @@ pub record MayEnter (o : Order) (f : MatchState) : Type 0 where
   pub price_in_range : InPriceRange o.price
   pub shows_in_full : ShowsInFull o
 
--- one order after a change: its traded lots are the same
+-- an order before and after a change: the lots already traded are the same
 pub record ChangesInto (o o' : Order) : Type 0 where
   pub number : o'.number ≡ o.number
   pub side : o'.side ≡ o.side
   pub account : o'.quantity + o.open_lots ≡ o'.open_lots + o.quantity
   pub price_in_range : InPriceRange o'.price
 
+-- an order stands here that may be changed into this one
 pub record MayChange (s : Side) (i : ℕ) (o' : Order) (f : MatchState) : Type 0 where
   pub idle : f.incoming ≡ None
   pub was : Order
   pub there : slice_get (at s f.queues.stands) i ≡ Some was
   pub changes : ChangesInto was o'
 
+-- a stop may be entered, and finds a free place
 pub record MayAcceptStop (x : Stop) (f : MatchState) : Type 0 where
   pub enters : MayEnter x.order f
   pub has_place : count (Stops x.order.side) f.queues < capacity (Stops x.order.side) f.queues
   pub price_in_range : InPriceRange x.trigger
 
+-- the incoming order may trade with the first opposite one
 pub record MayTrade (o r : Order) (f : MatchState) : Type 0 where
   pub is_incoming : f.incoming ≡ Some o
   pub first : slice_get (at (opposite o.side) f.queues.stands) 0 ≡ Some r
   pub within_its_limit : within_limit o.side o.price r.price ≡ true
 
+-- the incoming order may come to stand: no opposite order is within its limit, and there is a free place
 pub record MayRest (o : Order) (f : MatchState) : Type 0 where
   pub is_incoming : f.incoming ≡ Some o
   pub none_match : NoneWithinLimit o.side o.price (at (opposite o.side) f.queues.stands)
   pub has_place : count (Orders o.side) f.queues < capacity (Orders o.side) f.queues
 
--- where a record lies
+-- a record has this place of its queue
 abbrev pub RecordAt : Queue → ℕ → Record → Queues → Type 0
 RecordAt (Orders s) i r q = (o : Order) × (r ≡ Standing o) × (slice_get (at s q.stands) i ≡ Some o)
 RecordAt (Stops s) i r q = (x : Stop) × (r ≡ Waiting x) × (slice_get (at s q.waits) i ≡ Some x)
 
+-- the status of the records of a queue
 abbrev pub status : Queue → Status
 status (Orders s) = stands
 status (Stops s) = waits
 
--- when an event may happen
+-- when an event may apply
 abbrev pub MayApply : Event → MatchState → Type 0
 MayApply (accepts o) f = MayEnter o f
 MayApply (accepts_stop x) f = MayAcceptStop x f
@@ -84,7 +89,7 @@ MayApply (cancels_resting c n i r) f = (f.incoming ≡ None) × RecordAt n i r f
 MayApply (amends i o) f = (h : MayChange o.side i o f) × SameRank h.was o
 MayApply (requeues s i o) f = MayChange s i o f × ShowsInFull o × (o.turn ≡ f.session.next_stamp)
 
--- what goes with an event, and what comes
+-- a measure of the orders that an event takes out, and of those that it puts in
 
 abbrev pub of_outcome : (Order → ℕ) → RestingOutcome → (lots stamp : ℕ) → Order → ℕ
 of_outcome w filled lots stamp r = 0
@@ -111,7 +116,7 @@ measure_in (amends i o) f g = g stands o
 measure_in (requeues s i o) f g = g incoming o
 measure_in _ f g = 0
 
--- the queues and the hand without what goes
+-- the queues without the orders that an event takes out
 abbrev pub untouched_queues : Event → MatchState → Queues
 untouched_queues (trades o r) f = taken (Orders (opposite o.side)) 0 f.queues
 untouched_queues (triggers s x) f = taken (Stops s) 0 f.queues
@@ -120,7 +125,7 @@ untouched_queues (amends i o) f = taken (Orders o.side) i f.queues
 untouched_queues (requeues s i o) f = taken (Orders s) i f.queues
 untouched_queues _ f = f.queues
 
--- with any event nothing else is incoming
+-- a measure of the orders that an event leaves untouched; none of them is incoming
 abbrev pub measure_untouched : Measure → Event → MatchState → ℕ
 measure_untouched g e f = over g (untouched_queues e f) None
 
@@ -131,11 +136,11 @@ module _ (g : Measure) where
   incoming_measure : (f : MatchState) (o : Order) → f.incoming ≡ Some o → of_incoming (g incoming) f.incoming ≡ g incoming o
   incoming_measure f o e = ap (of_incoming (g incoming)) e
 
-  pulled : (n : Queue) (i : ℕ) (r : Record) (q : Queues) → RecordAt n i r q → queued g (taken n i q) + g (status n) (order_of_record r) ≡ queued g q
-  pulled (Orders s) i r q h = let z : g stands (order_of_record r) ≡ g stands h.0 = ap (λ r. g stands (order_of_record r)) h.1 in omega (arith, queued_removed g s i h.0 q h.2)
-  pulled (Stops s) i r q h = let z : g waits (order_of_record r) ≡ g waits h.0.order = ap (λ r. g waits (order_of_record r)) h.1 in omega (arith, queued_stop_removed g s i h.0 q h.2)
+  record_removed : (n : Queue) (i : ℕ) (r : Record) (q : Queues) → RecordAt n i r q → queued g (taken n i q) + g (status n) (order_of_record r) ≡ queued g q
+  record_removed (Orders s) i r q h = let z : g stands (order_of_record r) ≡ g stands h.0 = ap (λ r. g stands (order_of_record r)) h.1 in omega (arith, queued_removed g s i h.0 q h.2)
+  record_removed (Stops s) i r q h = let z : g waits (order_of_record r) ≡ g waits h.0.order = ap (λ r. g waits (order_of_record r)) h.1 in omega (arith, queued_stop_removed g s i h.0 q h.2)
 
-  -- what an event takes up
+  -- before an event: what it leaves untouched, and what it takes out
   pub before_event : (e : Event) (f : MatchState) → MayApply e f → measure_untouched g e f + measure_out e f g ≡ everywhere g f
   before_event (accepts o) f h = omega (arith, none_incoming f h.idle)
   before_event (accepts_and_cancels c o) f h = omega (arith, none_incoming f h.idle)
@@ -145,7 +150,7 @@ module _ (g : Measure) where
   before_event (trades o r) f h = omega (arith, incoming_measure f o h.is_incoming, queued_removed g (opposite o.side) 0 r f.queues h.first)
   before_event (rests o) f h = omega (arith, incoming_measure f o h.is_incoming)
   before_event (triggers s x) f h = omega (arith, none_incoming f h.0, queued_stop_removed g s 0 x f.queues h.1)
-  before_event (cancels_resting c n i r) f h = omega (arith, none_incoming f h.0, pulled n i r f.queues h.1)
+  before_event (cancels_resting c n i r) f h = omega (arith, none_incoming f h.0, record_removed n i r f.queues h.1)
   before_event (amends i o) f h =
       let z : of_incoming (g stands) (slice_get (at o.side f.queues.stands) i) ≡ g stands h.0.was = ap (of_incoming (g stands)) h.0.there in
       omega (arith, none_incoming f h.0.idle, queued_removed g o.side i h.0.was f.queues h.0.there)
@@ -153,14 +158,14 @@ module _ (g : Measure) where
       let z : of_incoming (g stands) (slice_get (at s f.queues.stands) i) ≡ g stands h.0.was = ap (of_incoming (g stands)) h.0.there in
       omega (arith, none_incoming f h.0.idle, queued_removed g s i h.0.was f.queues h.0.there)
 
--- each number is had once at most
+-- no two orders have one number
 abbrev pub NumbersUnique : MatchState → Type 0
 NumbersUnique f = (n : ℕ) → everywhere (with_number n) f ≤ 1
 
 pub counts_itself : (p : Status) (o : Order) → with_number o.number p o ≡ 1
 counts_itself p o = rw (eq-eqb o.number o.number refl) refl
 
--- what a trade leaves of the queue that it met
+-- the queue of the resting order after a trade
 
 rank_itself : (k : Rank) → same_rank k k ≡ true
 rank_itself k = grind (arith, nat_tests)
@@ -170,7 +175,7 @@ pub rewrites : (i : ℕ) (x o : Order) (q : Queues) → slice_get (at o.side q.s
 rewrites i x o q e k =
     cond-true (rewrite_allowed i (Standing o) q) (record_set i (Standing o) q) q (ap (ranks_as rank_of o) e ∙ (ap (λ z. same_rank z (rank_of o)) k ∙ rank_itself (rank_of o)))
 
--- the book takes back an order that shows again
+-- the book takes an order that is refilled
 pub put_back_done : (r x : Order) (f : MatchState) → x.side ≡ r.side → x.number ≡ r.number → slice_get (at r.side f.queues.stands) 0 ≡ Some r →
     ConsistentQueues f.queues → NumbersUnique f →
     put_answer (Standing x) (taken (Orders r.side) 0 f.queues) ≡ Ok tt
@@ -185,7 +190,7 @@ put_back_done r x f d n e g k =
   where
     fewer : (s : Side) (q : Queues) → suc (length (remove (at s q.stands) 0)) ≡ length (at s q.stands) →
         suc (count (Orders s) (taken (Orders s) 0 q)) ≡ count (Orders s) q
-    fewer s q w = ap (λ l. suc (length l)) (at_own s (remove (at s q.stands) 0) q.stands) ∙ w
+    fewer s q w = ap (λ l. suc (length l)) (at_same_side s (remove (at s q.stands) 0) q.stands) ∙ w
 
     same_room : (s : Side) (q : Queues) → capacity (Orders s) (taken (Orders s) 0 q) ≡ capacity (Orders s) q
     same_room s q = refl
@@ -216,8 +221,8 @@ after_trade_trade o r f h g s =
     subst (λ (z : Side). after_trade (outcome (trade_lots o r) r) z (trade_lots o r) f.session.next_stamp r f.queues ≡ after_outcome (outcome (trade_lots o r) r) (trade_lots o r) f.session.next_stamp r f.queues) d
     (after_trade_is (outcome (trade_lots o r) r) (trade_lots o r) f.session.next_stamp r f (subst (λ (z : Side). slice_get (at z f.queues.stands) 0 ≡ Some r) (sym d) h.first) g s)
 
-own_first : (o r : Order) (f : MatchState) → MayTrade o r f → ConsistentQueues f.queues → slice_get (at r.side f.queues.stands) 0 ≡ Some r
-own_first o r f h g = subst (λ (z : Side). slice_get (at z f.queues.stands) 0 ≡ Some r) (sym (rest_side o r f h g).0) h.first
+first_of_own_side : (o r : Order) (f : MatchState) → MayTrade o r f → ConsistentQueues f.queues → slice_get (at r.side f.queues.stands) 0 ≡ Some r
+first_of_own_side o r f h g = subst (λ (z : Side). slice_get (at z f.queues.stands) 0 ≡ Some r) (sym (rest_side o r f h g).0) h.first
 
 queued_outcome : (g : Measure) (k : RestingOutcome) (lots stamp : ℕ) (r : Order) (q : Queues) → slice_get (at r.side q.stands) 0 ≡ Some r →
     queued g (after_outcome k lots stamp r q) ≡ queued g (taken (Orders r.side) 0 q) + of_outcome (g stands) k lots stamp r
@@ -225,14 +230,14 @@ queued_outcome g filled lots stamp r q e = omega arith
 queued_outcome g refilled lots stamp r q e = queued_put g (order_refilled stamp lots r) (taken (Orders r.side) 0 q)
 queued_outcome g reduced lots stamp r q e = queued_set g 0 r (order_reduced lots r) q e
 
--- what an event puts down
+-- after an event: what it leaves untouched, and what it puts in
 pub after_event : (g : Measure) (e : Event) (f : MatchState) → MayApply e f → ConsistentQueues f.queues → NumbersUnique f → everywhere g (apply e f) ≡ measure_untouched g e f + measure_in e f g
 after_event g (accepts_stop x) f h k s = omega (arith, queued_stop_put g x f.queues)
 after_event g (trades o r) f h k s =
     let m : RestingOutcome = outcome (trade_lots o r) r in
     let a : queued g (after_trade m (opposite o.side) (trade_lots o r) f.session.next_stamp r f.queues) ≡ queued g
     (after_outcome m (trade_lots o r) f.session.next_stamp r f.queues) = ap (queued g) (after_trade_trade o r f h k s) in
-    let b = queued_outcome g m (trade_lots o r) f.session.next_stamp r f.queues (own_first o r f h k) in
+    let b = queued_outcome g m (trade_lots o r) f.session.next_stamp r f.queues (first_of_own_side o r f h k) in
     let c : queued g (taken (Orders r.side) 0 f.queues) ≡ queued g (taken (Orders (opposite o.side)) 0 f.queues) = ap
     (λ (z : Side). queued g (taken (Orders z) 0 f.queues)) (rest_side o r f h k).0 in
     omega arith
@@ -245,7 +250,7 @@ after_event g (amends i o) f h k s =
     omega (arith, queued_set g i h.0.was o f.queues h.0.there)
 after_event g _ f h k s = omega arith
 
--- each event leaves good queues
+-- each event leaves consistent queues
 
 queues_outcome : (k : RestingOutcome) (lots stamp : ℕ) (r : Order) (q : Queues) → slice_get (at r.side q.stands) 0 ≡ Some r → ConsistentQueues q → ConsistentQueues (after_outcome k lots stamp r q)
 queues_outcome filled lots stamp r q e g = queues_removed r.side 0 r q e g
@@ -254,7 +259,7 @@ queues_outcome refilled lots stamp r q e g =
     let s : Side = r.side in
     let l : List Order = remove (at s q.stands) 0 in
     queues_put (order_refilled stamp lots r) (taken (Orders s) 0 q)
-    (omega (arith, ap (λ l. suc (length l)) (at_own s l q.stands), length_removed (at s q.stands) 0 r e, g.bounded (Orders s)))
+    (omega (arith, ap (λ l. suc (length l)) (at_same_side s l q.stands), length_removed (at s q.stands) 0 r e, g.bounded (Orders s)))
     (all_nth (OnSide s) (at s q.stands) 0 r e (g.on_side s)).1 (crosses_none_own s l q.stands (order_refilled stamp lots r)
     (same_crosses_none s q.stands r (order_refilled stamp lots r) refl (nth_crosses_none s 0 r q e g))) (queues_removed s 0 r q e g)
 
@@ -262,14 +267,14 @@ queues_cancel : (n : Queue) (i : ℕ) (r : Record) (q : Queues) → RecordAt n i
 queues_cancel (Orders s) i r q h g = queues_removed s i h.0 q h.2 g
 queues_cancel (Stops s) i r q h g = queues_stop_removed s i h.0 q h.2 g
 
--- the incoming order has a price that a rank can tell, and shows as in trading
+-- the incoming order has a price that fits a rank, and shows as it would when it comes to stand
 abbrev pub IncomingReady : Option Order → Type 0
 IncomingReady None = Unit {0}
 IncomingReady (Some o) = InPriceRange o.price × ShowsInFull o
 
 pub queues_apply : (e : Event) (f : MatchState) → MayApply e f → ConsistentQueues f.queues → NumbersUnique f → IncomingReady f.incoming → ConsistentQueues (apply e f).queues
 queues_apply (accepts_stop x) f h g s l = queues_stop_put x f.queues h.has_place h.enters.price_in_range h.price_in_range g
-queues_apply (trades o r) f h g s l = subst ConsistentQueues (sym (after_trade_trade o r f h g s)) (queues_outcome (outcome (trade_lots o r) r) (trade_lots o r) f.session.next_stamp r f.queues (own_first o r f h g) g)
+queues_apply (trades o r) f h g s l = subst ConsistentQueues (sym (after_trade_trade o r f h g s)) (queues_outcome (outcome (trade_lots o r) r) (trade_lots o r) f.session.next_stamp r f.queues (first_of_own_side o r f h g) g)
 queues_apply (rests o) f h g s l = queues_put o f.queues h.has_place (subst IncomingReady h.is_incoming l).0 (none_within_crosses_none o o.side f.queues.stands h.none_match) g
 queues_apply (triggers z x) f h g s l = queues_stop_removed z 0 x f.queues h.1 g
 queues_apply (cancels_resting c n i r) f h g s l = queues_cancel n i r f.queues h.1 g

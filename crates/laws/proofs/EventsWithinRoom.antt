@@ -1,4 +1,4 @@
--- Each event is within room: its lines and stamps are had in full, what it puts is taken, and its orders keep their bounds.
+-- Each event is within room: it has its lines and stamps in full, the book takes what it puts, and its orders keep their bounds.
 use Rattle.std.proofs.Common.{◌≡◌, ℕ, ◌-◌, ◌≤◌, Bool, true, false, cond, ltb, Some, None, Option, sym, refl, ap, ◌∙◌, subst, arith, Ok, Err}
 use Rattle.std.specs.List.{slice_get}
 use Rattle.std.proofs.lemmas.Bool.{cond_both}
@@ -36,7 +36,7 @@ pub trace-++ : {f g h : MatchState} → Trace f g → Trace g h → Trace f h
 trace-++ ended k = k
 trace-++ (then e s c) k = then e s (trace-++ c k)
 
--- no put answers twice
+-- no put is refused because its number is used
 
 not_twice : (b : Bool) → ◌≡◌ {A = PutAnswer} (cond b (Ok tt) (Err Full)) (Err Twice) → ⊥
 not_twice true e = let u : ◌≡◌ {A = ℕ} 0 1 = cc in omega arith
@@ -45,7 +45,7 @@ not_twice false e = let u : ◌≡◌ {A = ℕ} 0 1 = cc in omega arith
 never_twice : (e : Record) (q : Queues) → queued (with_number (number_of e)) q ≡ 0 → put_answer e q ≡ Err Twice → ⊥
 never_twice e q n k = not_twice (ltb (count (queue_of e) q) (capacity (queue_of e) q)) (sym (put_new e q n) ∙ k)
 
--- the number incoming is in no queue
+-- the number of the incoming order is in no queue
 pub incoming_alone : (f : MatchState) (o : Order) → f.incoming ≡ Some o → NumbersUnique f → queued (with_number o.number) f.queues ≡ 0
 incoming_alone f o h s = let z : of_incoming (with_number o.number incoming) f.incoming ≡ with_number o.number incoming o = ap
     (of_incoming (with_number o.number incoming)) h in omega (arith, s o.number, counts_itself incoming o)
@@ -74,7 +74,7 @@ next_put_done (rests o) f h s = h.1
 next_put_done (triggers z x) f h s = tt
 next_put_done _ f h s = absurd h
 
--- bounds
+-- the rows of an event keep the bounds
 
 outcome_within : (lots stamp : ℕ) (r : Order) → lots ≤ r.shown → outcome_in_bounds (outcome lots r) lots stamp r
 outcome_within lots stamp r h = outcome_cases lots r (λ k. outcome_in_bounds k lots stamp r) h (λ _. tt)
@@ -102,7 +102,7 @@ runs_to_trace (at_next {f} e x r l) s = then e (within_room e f r (next_put_done
 pub run_to_rest_trace : (f : MatchState) → Consistent f → RoomForRest f → Trace f (run_to_rest f)
 run_to_rest_trace f s h = runs_to_trace (run_to_rest_runs f s h) s
 
--- an arrival puts well
+-- the book takes what an entry's first event puts
 
 put_done_accepts_or_cancels : (a : NewOrder) (o : Order) (f : MatchState) → PutDone (accepts_or_cancels a o f.queues) f
 put_done_accepts_or_cancels a o f = cond_both (falls_short a o f.queues) (accepts_and_cancels ShortReach o) (accepts o) (λ e. PutDone e f) (λ _. tt) (λ _. tt)

@@ -1,4 +1,4 @@
--- Who stands in the tally, and that its first price of a side is the first price of the queue.
+-- The orders that stand in the tally; its first price of a side is the first price of the queue.
 use Rattle.std.proofs.Common.{◌≡◌, ℕ, ◌+◌, ◌≤◌, Bool, true, false, cond, ◌&&◌, List, [], ◌∷◌, Some, None, Option, sym, refl, ap, ◌∙◌, subst, ⊎_elim, arith}
 use Rattle.std.specs.List.{AllByRecursion}
 use Rattle.std.proofs.lemmas.Bool.{cond_both, cond-true, cond-false, both_ways, eq-eqb, ne_eqb, cases_eq, le-ltb}
@@ -22,7 +22,7 @@ use Rattle.laws.proofs.ConsistentQueues.{ConsistentQueues, InPriceRange, OnSide,
 use Rattle.laws.proofs.SumsOverOrders.{Measure, of_incoming, of_stop, everywhere, total_none}
 use Rattle.laws.proofs.TallyAgrees.{RowMeasure, of_tally_row, TallyAgrees, counts_nothing}
 
--- nobody that stands on a side passes a test that nobody of that queue passes
+-- where no order of a queue passes a test, no standing account of that side does
 
 one_side : (z s : Side) (b : Bool) → (s ≡ z → b ≡ false) → cond {A = ℕ} (same_side s z && b) 1 0 ≡ 0
 one_side Buy Buy b h = rw (h refl) refl
@@ -55,7 +55,7 @@ none_stands z q f g h =
     at_incoming None = refl
     at_incoming (Some o) = refl
 
--- an order that stands counts
+-- a standing order counts
 some_stands : (g : Measure) (z : Side) (r : Order) (rest : List Order) (f : MatchState) → at z f.queues.stands ≡ r ∷ rest → g stands r ≤ everywhere g f
 some_stands g Buy r rest f e = let a : total (g stands) f.queues.stands.buy ≡ g stands r + total (g stands) rest = ap (total (g stands)) e in omega arith
 some_stands g Sell r rest f e = let a : total (g stands) f.queues.stands.sell ≡ g stands r + total (g stands) rest = ap (total (g stands)) e in omega arith
@@ -66,6 +66,7 @@ pub better_itself : (s : Side) (p : Price) → better s p p ≡ false
 better_itself Buy p = le-ltb (level p) (level p) (omega arith)
 better_itself Sell p = le-ltb (level p) (level p) (omega arith)
 
+-- how many accounts that stand on a side pass a test of their price
 abbrev count_if : Side → (Price → Bool) → List Account → ℕ
 count_if s q l = total (λ a. cond (stands_on s a.status a.order && q a.order.price) 1 0) l
 
@@ -78,6 +79,7 @@ first_none s (a ∷ l) e = cond-false (stands_on s a.status a.order) (Some (bett
     and_true false e = refl
     and_true true e = e
 
+-- no price is better than this one
 abbrev NoBetter : Side → Price → Option Price → Type 0
 NoBetter s p None = Unit {0}
 NoBetter s p (Some q) = better s q p ≡ false
@@ -145,6 +147,7 @@ none_better s r (x ∷ l) dr d h =
       none_better s r l dr d.1 h.1,
     )
 
+-- the price of the first order
 abbrev pub price_of_first : List Order → Option Price
 price_of_first [] = None
 price_of_first (r ∷ l) = Some r.price

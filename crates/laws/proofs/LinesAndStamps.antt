@@ -1,4 +1,4 @@
--- What an event writes and how many stamps it draws, where there is room.
+-- An event that has room writes its lines, and draws its stamps.
 use Rattle.std.proofs.Common.{◌≡◌, ℕ, suc, ◌+◌, ◌<◌, ◌≤◌, ltb, List, ◌∷◌, ◌++◌, length, None, refl, ap, ◌∙◌, arith}
 use Rattle.std.proofs.lemmas.Bool.{cond-true, lt-ltb}
 use Rattle.books.specs.Model.{order_of_record}
@@ -11,10 +11,11 @@ use Rattle.matching.specs.Sessions.{stamp_after}
 use Rattle.laws.specs.WithinRoom.{event_lines, outcome_stamps, event_stamps}
 use Rattle.matching.specs.Model.{MatchState, Event, accepts, accepts_stop, accepts_and_cancels, accepts_unmatched, cancels_incoming, trades, rests, triggers, cancels_resting, amends, requeues, RestingOutcome, refilled, outcome, trade_lots, session_after_trade, apply, line_A, line_R, line_S, line_C, line_T}
 
+-- the lines of the tape, the latest first
 abbrev pub tape : MatchState → List Line
 tape f = f.tape.lines
 
--- an event finds a free line for each that it writes, and an undrawn stamp
+-- a free line for each that the event writes, and an undrawn stamp if it draws one
 pub record RoomFor (e : Event) (f : MatchState) : Type 0 where
   pub free_lines : length (event_lines e) + length (tape f) ≤ f.tape.limit
   pub free_stamps : 1 ≤ event_stamps e → f.session.next_stamp < 1000000000

@@ -1,4 +1,4 @@
--- What the lines of a step tell: the tally that notes them goes with the match state, and every trade among them is fair.
+-- The lines of a step tell what it did: the tally that notes them agrees with the match state, and every trade among them is fair.
 use Rattle.std.proofs.Common.{◌≡◌, List, [], ◌∷◌, ◌++◌, Some, None, Option, sym, refl, ap, ◌∙◌, subst, append_assoc}
 use Rattle.orders.specs.declared.order.Order.{Order}
 use Rattle.tapes.specs.declared.line.Line.{Line}
@@ -12,7 +12,7 @@ use Rattle.laws.proofs.RunsToRest.{Consistent, consistent_apply, MayRun, RunsTo,
 use Rattle.laws.proofs.TallyAgrees.{TallyAgrees, tally_agrees_trades, tally_agrees_cancels_incoming, tally_agrees_triggers, tally_agrees_rests, tally_agrees_idle}
 use Rattle.laws.proofs.TradesFair.{fair_trades}
 
--- between events the tally goes with the match state, but for an order that came to stand without a line
+-- between events the tally agrees with the match state, but for an order that came to stand, of which there is no line
 abbrev pub AgreesOnceRested : Option Order → Tally → MatchState → Type 0
 AgreesOnceRested (Some o) t f = TallyAgrees t f
 AgreesOnceRested None t f = TallyAgrees (incoming_rested t) f
@@ -40,7 +40,7 @@ lines_tell_event q (rests o) f n r s t w = (tally_agrees_rests o f n.0 s t (agre
 lines_tell_event q (triggers z x) f n r s t w = (tally_agrees_triggers z x f n.0 s r (incoming_rested t) (agrees_with_none f t n.0.0 w), (tt, tt))
 lines_tell_event q _ f n r s t w = absurd n.1
 
--- a way from one match state to another, told by its lines
+-- the lines from one match state to another
 pub record LinesTell (q : Request) (t : Tally) (f g : MatchState) : Type 0 where
   pub lines : List Line
   pub tape_grew : tape g ≡ lines ++ tape f
@@ -55,7 +55,7 @@ pub fair-++ : (q : Request) (a b : List Line) (t : Tally) → FairLines q b t �
 fair-++ q [] b t h k = h
 fair-++ q (l ∷ a) b t h k = (fair-++ q a b t h k.0, rw (noted-++ q a b t) k.1)
 
--- one event, and then more
+-- the lines of an event, and then more
 pub lines_tell_then : (q : Request) (t : Tally) (e : Event) (f g : MatchState) → RoomFor e f → FairLines q (event_lines e) t → LinesTell q (noted q (event_lines e) t) (apply e f) g → LinesTell q t f g
 lines_tell_then q t e f g r h k = record {
   lines = k.lines ++ event_lines e;

@@ -1,4 +1,4 @@
--- What one more step keeps, from what holds of every run.
+-- What one more step keeps, as a case of what holds of every run.
 use Rattle.std.proofs.Common.{◌≡◌, Ok, sym, subst}
 use Rattle.forms.specs.declared.form.Form.{Form}
 use Rattle.forms.specs.declared.form.Form.TheVariants.{Entry}

@@ -24,7 +24,7 @@ use Rattle.laws.proofs.ConsistentQueues.{InPriceRange, OnSide, NoneWithinLimit, 
 use Rattle.laws.proofs.RowsInBounds.{refilled_row}
 use Rattle.laws.proofs.FirstPrices.{none_better, better_itself}
 
--- open lots are a sum
+-- the counted open lots are a sum
 open_total : (o : Order) (m : Option Price) (l : List Order) → counted_open_lots o m l ≡ total (λ (r : Order). cond (counts o m r) r.open_lots 0) l
 open_total o m [] = refl
 open_total o m (r ∷ l) = ap (λ n. cond (counts o m r) r.open_lots 0 + n) (open_total o m l)
@@ -37,7 +37,7 @@ none_open : (o : Order) (m : Option Price) (l : List Order) → AllByRecursion (
 none_open o m [] h = refl
 none_open o m (r ∷ l) h = let z : cond (counts o m r) r.open_lots 0 ≡ 0 = cond-false (counts o m r) r.open_lots 0 h.0 in omega (arith, none_open o m l h.1)
 
--- nobody is within the limit
+-- no order is within the limit
 no_own : (o : Order) (l : List Order) → NoneWithinLimit o.side o.price l → own_price o l ≡ None
 no_own o [] h = refl
 no_own o (r ∷ l) h = cond-false (own o r) (Some r.price) (own_price o l) (and_right (same_investor o r) (within_limit o.side o.price r.price) h.0) ∙ no_own o l h.1
@@ -45,7 +45,7 @@ no_own o (r ∷ l) h = cond-false (own o r) (Some r.price) (own_price o l) (and_
 pub reach_none_within : (o : Order) (l : List Order) → NoneWithinLimit o.side o.price l → reach o l ≡ 0
 reach_none_within o l h = ap (λ m. reach_by m o l) (no_own o l h) ∙ none_open o None l h
 
--- the first is of the own investor
+-- the first order is of the own investor
 pub reach_own : (o r : Order) (l : List Order) → own o r ≡ true → Sorted rank_of (r ∷ l) → AllByRecursion (OnSide (opposite o.side)) (r ∷ l) → reach o (r ∷ l) ≡ 0
 reach_own o r l e h d =
     let p : Price = r.price in
@@ -75,7 +75,7 @@ shown_apart o x p (y ∷ l) e k =
     x.shown 0 + shown_ahead o p (y ∷ l) ≡ shown_ahead o p (y ∷ l) = omega arith in w))
     (λ _. ap (λ n. cond (own o y) 0 (cond (same_price y.price p) y.shown 0 + n)) (shown_apart o x p l e k))
 
--- who stands before the first of the own investor is priced no worse
+-- an order ahead of the first of the own investor is priced no worse
 own_behind : (z : Side) (o : Order) (p : Price) (k : Rank) (l : List Order) → own_price o l ≡ Some p → AllByRecursion (OnSide z) l →
     AllByRecursion (λ y. ranks_ahead (rank_of y) k ≡ false) l → k.key ≤ order_key z p
 own_behind z o p k [] e d h = let u : ◌≡◌ {A = ℕ} 0 1 = cc in absurd (omega arith)
@@ -91,7 +91,7 @@ own_behind z o p k (y ∷ l) e d h = go (own o y) e (λ q. own_behind z o p k l 
 behind_all : (a b : Rank) → b.key ≤ a.key → b.turn < a.turn → ranks_ahead a b ≡ false
 behind_all a b h k = grind (arith, nat_tests)
 
--- an order that goes behind its price goes behind the first of the own investor there
+-- an order that is put behind its price is put behind the first of the own investor there
 shown_behind : (z : Side) (o x : Order) (p : Price) (l : List Order) → own_price o l ≡ Some p → Sorted rank_of l → AllByRecursion (OnSide z) l →
     AllByRecursion (λ (y : Order). y.turn < x.turn) l → order_key x.side x.price ≡ order_key z p →
     shown_ahead o p (put_by_rank rank_of x l) ≡ shown_ahead o p l
@@ -211,9 +211,9 @@ module _ (o r : Order) (l : List Order) (turn : ℕ) (w : within_limit o.side o.
 
 -- what is left of a queue keeps its order, its side and its turns
 
-all_early : (turn : ℕ) (l : List Order) → AllByRecursion (λ (y : Order). y.turn < turn) l → AllByRecursion (λ (y : Order). y.turn < suc turn) l
-all_early turn [] h = tt
-all_early turn (y ∷ l) h = (let k = h.0 in omega arith, all_early turn l h.1)
+all_below_next : (turn : ℕ) (l : List Order) → AllByRecursion (λ (y : Order). y.turn < turn) l → AllByRecursion (λ (y : Order). y.turn < suc turn) l
+all_below_next turn [] h = tt
+all_below_next turn (y ∷ l) h = (let k = h.0 in omega arith, all_below_next turn l h.1)
 
 front_traded_parts : (turn : ℕ) (r : Order) (l : List Order) → suc (total parts (front_traded turn r l)) ≤ total parts (r ∷ l)
 front_traded_parts turn r l = cond_both (eqb r.open_lots r.shown) l (put_by_rank rank_of (order_refilled turn r.shown r) l) (λ k. suc (total parts k) ≤ total parts (r ∷ l))
@@ -248,5 +248,5 @@ reach_is_unlimited_trade (suc k) turn o (r ∷ l) h d t m =
     front_traded_on_side false = all_put_in rank_of (OnSide (opposite o.side)) (order_refilled turn r.shown r) l d.0 d.1
 
     front_traded_drawn : (b : Bool) → AllByRecursion (λ (y : Order). y.turn < suc turn) (cond b l (put_by_rank rank_of (order_refilled turn r.shown r) l))
-    front_traded_drawn true = all_early turn l t.1
-    front_traded_drawn false = all_put_in rank_of (λ (y : Order). y.turn < suc turn) (order_refilled turn r.shown r) l (let z : turn < suc turn = omega arith in z) (all_early turn l t.1)
+    front_traded_drawn true = all_below_next turn l t.1
+    front_traded_drawn false = all_put_in rank_of (λ (y : Order). y.turn < suc turn) (order_refilled turn r.shown r) l (let z : turn < suc turn = omega arith in z) (all_below_next turn l t.1)

@@ -1,4 +1,4 @@
--- Removals: each pull leaves a quiescent match state, and the tally notes it.
+-- Removals: each leaves a quiescent match state, and the tally agrees with it.
 use Rattle.std.proofs.Common.{◌≡◌, ℕ, zero, suc, ◌+◌, ◌≤◌, false, List, [], ◌++◌, length, Some, None, Option, sym, refl, ap, ◌∙◌, append_assoc, arith, length-append}
 use Rattle.std.specs.List.{remove, AllByRecursion, slice_get}
 use Rattle.std.specs.Option.{option_map}
@@ -57,11 +57,11 @@ unripe_cancel (Stops s) i f h =
     at_with (λ (t : Side) l. AllByRecursion (λ (x : Stop). ripe t f.session.last_price x.trigger ≡ false) l) s (remove (at s f.queues.waits) i) f.queues.waits
     (all_removed (λ (x : Stop). ripe s f.session.last_price x.trigger ≡ false) (at s f.queues.waits) i (h s)) h
 
--- room for a line for each record
+-- a free line for each record
 abbrev pub RoomForRemovals : MatchState → Type 0
 RoomForRemovals f = length (tape f) + records f.queues ≤ f.tape.limit
 
--- by pulls alone, from one quiescent match state to another
+-- what holds after removals
 pub record AfterRemovals (q : Request) (t : Tally) (f g : MatchState) : Type 0 where
   pub quiescent : Quiescent g
   pub lines : List Line

@@ -1,4 +1,4 @@
--- Twenty free lines and twenty undrawn stamps for each record and one more are enough.
+-- Twenty free lines and twenty undrawn stamps for each record and one more suffice (rules 7).
 use Rattle.std.proofs.Common.{◌≡◌, ℕ, suc, ◌+◌, ◌*◌, ◌≤◌, List, [], ◌∷◌, length, Some, None, Option, ap, ◌∙◌, arith, length-append, Ok, Err}
 use Rattle.std.specs.List.{slice_get}
 use Rattle.std.proofs.lemmas.Bool.{cond_both}
@@ -27,6 +27,7 @@ use Rattle.laws.specs.WithinRoom.{event_lines, event_stamps}
 use Rattle.laws.proofs.LinesAndStamps.{tape, RoomFor, tape_is, stamp_is, limit_is}
 use Rattle.laws.proofs.RunsToRest.{RoomForRest}
 
+-- the room that an entry or a change asks for (rules 7)
 pub record RoomForStep (f : MatchState) : Type 0 where
   pub free_lines : length (tape f) + needed f.queues ≤ f.tape.limit
   pub free_stamps : f.session.next_stamp + needed f.queues ≤ 1000000000
@@ -39,7 +40,7 @@ weight_most : (q : Queues) → queues_weight q ≤ 18 * records q
 unfolding queues_weight
 weight_most q = omega (arith, total_most q.stands.buy, total_most q.stands.sell)
 
--- the load with one order less, and with one stop more
+-- the weight of the queues with one order less, and with one stop more
 
 weight_removed : (s : Side) (i : ℕ) (o : Order) (q : Queues) → slice_get (at s q.stands) i ≡ Some o → queues_weight (taken (Orders s) i q) ≤ queues_weight q
 unfolding queues_weight
@@ -60,6 +61,7 @@ BeginsStep (accepts_unmatched n k) = Unit {0}
 BeginsStep (requeues s i o) = Unit {0}
 BeginsStep _ = ⊥
 
+-- what the first event of a step adds to the weight, and uses of the room
 pub record AddsAtMost (e : Event) (f : MatchState) : Type 0 where
   pub by_lines : weight (apply e f) + length (event_lines e) ≤ queues_weight f.queues + 20
   pub by_stamps : weight (apply e f) + event_stamps e ≤ queues_weight f.queues + 20
@@ -90,7 +92,7 @@ rest_has_room_at_first e f b h s =
     let d : length (tape (apply e f)) ≡ length (event_lines e) + length (tape f) = ap length (tape_is e f r) ∙ length-append (event_lines e) (tape f) in
     record { free_lines = omega (arith, s.free_lines, g.by_lines, limit_is e f); free_stamps = omega (arith, s.free_stamps, g.by_stamps, stamp_is e f r) }
 
--- a step that asks for an entry begins with its arrival
+-- an entry begins with one of these events
 
 begins_accepts_or_cancels : (a : NewOrder) (o : Order) (q : Queues) → BeginsStep (accepts_or_cancels a o q)
 begins_accepts_or_cancels a o q = cond_both (falls_short a o q) (accepts_and_cancels ShortReach o) (accepts o) BeginsStep (λ _. tt) (λ _. tt)

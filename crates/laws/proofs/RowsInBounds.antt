@@ -1,4 +1,4 @@
--- The rows that steps build keep the bounds, so each order is as it was meant.
+-- The rows that steps build keep the bounds, so each order has the fields of its row.
 use Rattle.std.proofs.Common.{◌≡◌, ℕ, ◌-◌, ◌*◌, ◌<◌, ◌≤◌, sym, refl, ap, ◌∙◌, arith}
 use Rattle.orders.specs.declared.order.Order.{Order}
 use Rattle.orders.specs.declared.row.OrderRow.{OrderRow}
@@ -23,13 +23,13 @@ pub refilled_row : (turn lots : ℕ) (o : Order) → lots < o.open_lots →
     row_of (order_refilled turn lots o) ≡ with_lots turn (o.open_lots - lots) (showing o.disclosed (o.open_lots - lots)) o
 refilled_row turn lots o h = reads_back (with_lots turn (o.open_lots - lots) (showing o.disclosed (o.open_lots - lots)) o) (refilled_fits turn lots o h)
 
--- so many lots may be asked for, of which so many are disclosed
+-- a quantity that may be asked for with this disclosed (rules 8)
 pub record QuantityAllowed (quantity disclosed : ℕ) : Type 0 where
   pub some : 1 ≤ quantity
   pub few : quantity ≤ 1000000
   pub parts : 1 ≤ disclosed → quantity ≤ 16 * disclosed
 
--- lots shown anew are within the bounds
+-- a row that shows in full is within the bounds
 pub shown_in_full_in_bounds : (r : OrderRow) → r.shown ≡ showing r.disclosed r.open_lots → 1 ≤ r.open_lots → r.open_lots ≤ r.quantity → QuantityAllowed r.quantity r.disclosed → InBounds r
 shown_in_full_in_bounds r e h q a =
     let s = showing_some r.disclosed r.open_lots h in
@@ -43,14 +43,14 @@ shown_in_full_in_bounds r e h q a =
       hidden_within_parts = λ z. omega (arith, showing_1 r.disclosed r.open_lots z, a.parts z);
     }
 
--- the row of an entered order, which shows at once
+-- the row of an entered order
 abbrev pub entered_row : NewOrder → Price → ℕ → OrderRow
 entered_row a price stamp = record (entered_account_row a price stamp stamp) { shown = showing a.disclosed a.quantity }
 
 pub order_from_row : (a : NewOrder) (price : Price) (stamp : ℕ) → QuantityAllowed a.quantity a.disclosed → row_of (entered_order a price stamp) ≡ entered_row a price stamp
 order_from_row a price stamp h = reads_back (entered_row a price stamp) (shown_in_full_in_bounds (entered_row a price stamp) refl h.some (omega arith) h)
 
--- an order that shows as in trading
+-- an order shows as much as it may (rules 3)
 abbrev pub ShowsInFull : Order → Type 0
 ShowsInFull o = o.shown ≡ showing o.disclosed o.open_lots
 

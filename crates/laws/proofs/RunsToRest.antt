@@ -1,4 +1,4 @@
--- What is next fits, there is room for it, and so one event follows another until nothing is next.
+-- What is next may apply and has room, so one event follows another until none is next.
 use Rattle.std.proofs.Common.{◌≡◌, ℕ, zero, suc, ◌+◌, ◌<◌, ◌≤◌, Bool, true, false, cond, ltb, List, [], ◌∷◌, length, is_some, Some, None, Option, sym, refl, ap, ◌∙◌, subst, arith, length-append, Ok, Err}
 use Rattle.std.specs.List.{AllByRecursion, slice_get}
 use Rattle.std.specs.Option.{option_map}
@@ -60,7 +60,7 @@ one_line_each _ f i = absurd i
 abbrev pub MayRun : Event → MatchState → Type 0
 MayRun e f = MayApply e f × IsNext e f
 
--- a put that is done found room
+-- a put that is done found a free place
 pub put_found_place : (e : Record) (q : Queues) → put_answer e q ≡ Ok tt → count (queue_of e) q < capacity (queue_of e) q
 put_found_place e q h = go (ltb (count (queue_of e) q) (capacity (queue_of e) q)) refl h
   where
@@ -100,7 +100,7 @@ next_may_run (rests o) f h g =
 next_may_run (triggers s x) f h g = ((h.0, first_stop_is s f.queues x h.1), h)
 next_may_run _ f h g = absurd h
 
--- from one match state to another by such events, each with room for its line and its stamp
+-- events, each next and each with room for its line and its stamp, lead from one match state to another
 pub data RunsTo : MatchState → MatchState → Type 0 where
   at_end : {f : MatchState} → RunsTo f f
   at_next : {f g : MatchState} (e : Event) → MayRun e f → RoomFor e f → RunsTo (apply e f) g → RunsTo f g
@@ -109,7 +109,7 @@ pub runs_to_consistent : {f g : MatchState} → RunsTo f g → Consistent f → 
 runs_to_consistent at_end s = s
 runs_to_consistent (at_next {f} e n r l) s = runs_to_consistent l (consistent_apply e f n.0 r s)
 
--- a free line and an undrawn stamp for each of the weight
+-- room for all that may still happen: a free line and an undrawn stamp for each of the weight
 pub record RoomForRest (f : MatchState) : Type 0 where
   pub free_lines : length (tape f) + weight f ≤ f.tape.limit
   pub free_stamps : f.session.next_stamp + weight f ≤ 1000000000
@@ -140,7 +140,7 @@ pub run_to_rest_runs : (f : MatchState) → Consistent f → RoomForRest f → R
 unfolding run_to_rest
 run_to_rest_runs f s h = run_events_runs (weight f) f s h
 
--- all comes to rest
+-- where the events end, none is next
 run_events_at_rest : (k : ℕ) (f : MatchState) → weight f ≤ k → next_event (run_events k f) ≡ None
 run_events_at_rest zero f w = go (next_event f) refl
   where
@@ -157,7 +157,7 @@ run_to_rest_at_rest : (f : MatchState) → next_event (run_to_rest f) ≡ None
 unfolding run_to_rest
 run_to_rest_at_rest f = run_events_at_rest (weight f) f (omega arith)
 
--- at rest nothing is on its way, and no stop is ripe
+-- where none is next, no order is incoming and no stop is ripe
 
 unripe_behind : (s : Side) (last : Option Price) (x y : Stop) → StopOnSide s x → StopOnSide s y → ranks_ahead (stop_rank_of y) (stop_rank_of x) ≡ false →
     ripe s last x.trigger ≡ false → ripe s last y.trigger ≡ false
@@ -192,6 +192,7 @@ none_ripe (Some x) (Some y) e = go (ltb y.order.turn x.order.turn) e
     go true e = let u : ◌≡◌ {A = ℕ} 0 1 = cc in absurd (omega arith)
     go false e = let u : ◌≡◌ {A = ℕ} 0 1 = cc in absurd (omega arith)
 
+-- a consistent match state in which nothing is next
 pub record Quiescent (f : MatchState) : Type 0 where
   pub consistent : Consistent f
   pub idle : f.incoming ≡ None

@@ -10,7 +10,7 @@ use Rattle.orders.specs.RanksLemmas.{ranks_ahead_transitive}
 use Rattle.books.specs.RankedLists.{put_by_rank, rank_index, before_number, index_of_number}
 use Rattle.matching.specs.Running.{total}
 
--- nothing further back ranks ahead
+-- no later one ranks ahead
 abbrev pub Sorted : {X : Type 0} → (X → Rank) → List X → Type 0
 Sorted f [] = Unit {0}
 Sorted f (x ∷ l) = AllByRecursion (λ y. ranks_ahead (f y) (f x) ≡ false) l × Sorted f l
@@ -79,7 +79,7 @@ ahead_one_way a b h = grind (arith, nat_tests)
 pub not_ahead_of_itself : (a : Rank) → ranks_ahead a a ≡ false
 not_ahead_of_itself a = grind (arith, nat_tests)
 
--- what is not before b is not before what b is behind
+-- what does not rank ahead of b does not rank ahead of what is ahead of b
 not_ahead_behind : (a b c : Rank) → ranks_ahead a b ≡ true → ranks_ahead c b ≡ false → ranks_ahead c a ≡ false
 not_ahead_behind a b c e h = go (ranks_ahead c a) refl
   where
@@ -120,7 +120,7 @@ sorted_set f (z ∷ l) (suc i) x y e k h = (
   sorted_set f l i x y e k h.1,
 )
 
--- a number that nobody has is not found
+-- a number that none has is not found
 
 unnumbered : {X : Type 0} (f : X → ℕ) (n : ℕ) (l : List X) → total (λ x. cond (eqb (f x) n) 1 0) l ≡ 0 → before_number f n l ≡ length l
 unnumbered f n [] e = refl

@@ -1,4 +1,4 @@
--- Sums over all orders, wherever they are: what a take, a put and a rewrite do to them.
+-- Sums over all orders, standing, waiting and incoming: what a take, a put and a rewrite do to them.
 use Rattle.std.proofs.Common.{◌≡◌, ℕ, ◌+◌, ◌<◌, ◌≤◌, cond, ltb, List, [], ◌∷◌, set, is_some, Some, None, Option, refl, ap, ◌∙◌, arith, Ok, Err}
 use Rattle.std.specs.List.{remove, slice_get}
 use Rattle.std.proofs.lemmas.Bool.{cond-true, lt-ltb}
@@ -19,16 +19,18 @@ use Rattle.laws.specs.Tally.{Status, stands, waits, incoming}
 use Rattle.laws.specs.Accounts.{counting}
 use Rattle.laws.proofs.SortedLists.{total_removed, total_put_in, total_set, not_found}
 
+-- a number for each order, by its status
 abbrev pub Measure : Type 0
 Measure = Status → Order → ℕ
 
 abbrev pub of_stop : Measure → Stop → ℕ
 of_stop g x = g waits x.order
 
--- over the queues, over the hand, over both
+-- over the queues
 abbrev pub queued : Measure → Queues → ℕ
 queued g q = total (g stands) q.stands.buy + total (g stands) q.stands.sell + (total (of_stop g) q.waits.buy + total (of_stop g) q.waits.sell)
 
+-- over the incoming order, and over all
 abbrev pub of_incoming : (Order → ℕ) → Option Order → ℕ
 of_incoming w None = 0
 of_incoming w (Some o) = w o
@@ -76,7 +78,7 @@ queued_set g i x o q e =
     let l : List Order = at s q.stands in
     omega (arith, queued_stands g s (set l i o) q, queued_stands g s (remove l i) q, total_set (g stands) l i x o e)
 
--- what holds of the measures holds of the sums
+-- sums of measures that are below, added to, or equal to others
 
 total_le : {X : Type 0} (g h : X → ℕ) → ((x : X) → g x ≤ h x) → (l : List X) → total g l ≤ total h l
 total_le g h k [] = omega arith
@@ -91,7 +93,7 @@ pub total_none : {X : Type 0} (l : List X) → total (λ x. 0) l ≡ 0
 total_none [] = refl
 total_none (x ∷ l) = let ih = total_none l in omega arith
 
--- where the weight is 0, two sums agree if they agree at each of weight 0
+-- two sums agree where they agree at each item whose weight is 0, and all have weight 0
 total_agree : {X : Type 0} (w g h : X → ℕ) → ((x : X) → w x ≡ 0 → g x ≡ h x) → (l : List X) → total w l ≡ 0 → total g l ≡ total h l
 total_agree w g h k [] e = refl
 total_agree w g h k (x ∷ l) e = let ih = total_agree w g h k l (omega arith) in let z = k x (omega arith) in omega arith
@@ -159,7 +161,7 @@ none_found n q e =
       not_found (λ (x : Stop). x.order.number) n q.waits.sell (omega arith),
     ) refl
 
--- a put of a number that nobody has is done where there is room, and never answers twice
+-- a put of a number that none has is done where there is a free place, and else finds its queue full
 pub put_new : (e : Record) (q : Queues) → queued (with_number (number_of e)) q ≡ 0 → put_answer e q ≡ cond (ltb (count (queue_of e) q) (capacity (queue_of e) q)) (Ok tt) (Err Full)
 put_new e q n = ap (λ (m : Option (Queue × ℕ)). cond (ltb (count (queue_of e) q) (capacity (queue_of e) q)) (cond (is_some m) (Err Twice) (Ok tt)) (Err Full)) (none_found (number_of e) q n)
 

@@ -1,4 +1,4 @@
--- The tally goes with the match state, event by event: every sum over its accounts is the sum over the orders of the match state.
+-- The tally agrees with the match state, event by event: every sum over its accounts is that over the orders of the match state.
 use Rattle.std.proofs.Common.{◌≡◌, ℕ, ◌+◌, ◌-◌, ◌≤◌, Bool, true, false, cond, ◌||◌, eqb, List, [], ◌∷◌, Some, None, Option, sym, refl, ap, ◌∙◌, subst, arith}
 use Rattle.std.proofs.lemmas.Bool.{cond-true, cond-false, eq-eqb, ne_eqb, or_from, or_left, or_right}
 use Rattle.orders.specs.declared.side.Side.{Side}
@@ -19,7 +19,7 @@ use Rattle.laws.proofs.RowsInBounds.{ShowsInFull, refilled_row, reduced_row}
 use Rattle.laws.proofs.EventsApply.{MayApply, of_outcome, measure_out, measure_in, untouched_queues, measure_untouched, before_event, after_event, counts_itself, IncomingReady, status}
 use Rattle.laws.specs.WithinRoom.{outcome_stamps}
 use Rattle.laws.proofs.LinesAndStamps.{RoomFor, stamp_is}
-use Rattle.laws.proofs.AccountsBalance.{rest_other}
+use Rattle.laws.proofs.AccountsBalance.{untouched_unnumbered}
 use Rattle.laws.proofs.RunsToRest.{Consistent}
 
 -- an order as the tally has it: only an order that stands shows lots
@@ -33,6 +33,7 @@ as_tally_row p r = row_with r.turn r.open_lots (tally_shown p r.shown) r
 abbrev pub tally_row : Status → Order → OrderRow
 tally_row p o = as_tally_row p (row_of o)
 
+-- a number for each account, and the measure of orders that it makes
 abbrev pub RowMeasure : Type 0
 RowMeasure = Status → OrderRow → ℕ
 
@@ -60,10 +61,11 @@ total_adjust g h (a ∷ l) = go (h a) (total_adjust g h l)
     go None e = omega arith
     go (Some b) e = omega arith
 
+-- the measure of orders after the accounts are adjusted
 abbrev pub adjusted_measure : (Account → Option Account) → RowMeasure → Measure
 adjusted_measure h g p o = on_account_if g (h (account p (tally_row p o)))
 
--- an event on the match state is a change of the accounts that it takes up
+-- an event on the match state is a change of the accounts of the orders that it takes out
 pub sums_adjusted : (w : Measure) (h : Account → Option Account) (e : Event) (f : MatchState) (l : List Account) → MayApply e f → Consistent f → measure_untouched w e f ≡ 0 →
     ((p : Status) (o : Order) → w p o ≡ 0 → h (account p (tally_row p o)) ≡ Some (account p (tally_row p o))) →
     ((g : RowMeasure) → measure_out e f (adjusted_measure h g) ≡ measure_in e f (of_tally_row g)) → ((g : RowMeasure) → total (on_account g) l ≡ everywhere (of_tally_row g) f) →
@@ -83,7 +85,7 @@ pub counts_nothing : (b : Bool) → cond {A = ℕ} b 1 0 ≡ 0 → b ≡ false
 counts_nothing false e = refl
 counts_nothing true e = absurd (omega arith)
 
--- one that is not named stays, and one that is named does not
+-- an account of another number stays, and one of this number gives way
 pub unnamed_stays : (n : ℕ) (m : Option Account) (p : Status) (o : Order) → with_number n p o ≡ 0 →
     only (numbered n (account p (tally_row p o))) m (account p (tally_row p o)) ≡ Some (account p (tally_row p o))
 unnamed_stays n m p o h = cond-false (eqb o.number n) m (Some (account p (tally_row p o))) (counts_nothing (eqb o.number n) h)
@@ -123,17 +125,18 @@ turns_drawn_outcome lots r h = outcome_cases lots r (λ k. cond (shown_ran_out s
     (λ e more. rw (ne_eqb (r.open_lots - lots) 0 (λ y. omega arith), eq-eqb (r.shown - lots) 0 (omega arith)) refl)
     (λ less. rw (ne_eqb (r.open_lots - lots) 0 (λ y. omega arith), ne_eqb (r.shown - lots) 0 (λ v. omega arith)) refl)
 
--- a trade
+-- a trade: its two orders, and no other
 
 module _ (o r : Order) (f : MatchState) (fit : MayApply (trades o r) f) (s : Consistent f) where
+  -- 1 for each of the two orders
   abbrev pub the_traders : Measure
   the_traders p x = with_number o.number p x + with_number r.number p x
 
   pub no_other_trader : measure_untouched the_traders (trades o r) f ≡ 0
   no_other_trader =
       let e : Event = trades o r in
-      let a = rest_other e f fit s.accounted o.number (omega (arith, counts_itself incoming o)) in
-      let b = rest_other e f fit s.accounted r.number (omega (arith, counts_itself stands r)) in
+      let a = untouched_unnumbered e f fit s.accounted o.number (omega (arith, counts_itself incoming o)) in
+      let b = untouched_unnumbered e f fit s.accounted r.number (omega (arith, counts_itself stands r)) in
       omega (arith, over_plus (untouched_queues e f) None (with_number o.number) (with_number r.number))
 
   pub incoming_named : (eqb o.number o.number || eqb o.number r.number) ≡ true
@@ -190,7 +193,7 @@ module _ (o r : Order) (f : MatchState) (fit : MayApply (trades o r) f) (s : Con
         );
       }
 
--- all lots off
+-- an account leaves when all of its lots come off
 all_lots_off : (turn : ℕ) (p : Status) (o : Order) → take_off o.open_lots turn (account p (tally_row p o)) ≡ None
 all_lots_off turn p o = cond-true (eqb (o.open_lots - o.open_lots) 0) None (Some (account p
     (refilled_if (shown_ran_out p (lots_off o.open_lots (tally_row p o))) turn (lots_off o.open_lots (tally_row p o))))) (eq-eqb (o.open_lots - o.open_lots) 0 (omega arith))
@@ -199,11 +202,11 @@ leaves_the_tally : (g : RowMeasure) (turn : ℕ) (p : Status) (o : Order) →
     on_account_if g (only (numbered o.number (account p (tally_row p o))) (take_off o.open_lots turn (account p (tally_row p o))) (account p (tally_row p o))) ≡ 0
 leaves_the_tally g turn p o = ap (on_account_if g) (named_is (take_off o.open_lots turn (account p (tally_row p o))) p o ∙ all_lots_off turn p o)
 
--- an event that takes up one order
+-- an event that takes out one order
 module _ (e : Event) (f : MatchState) (fit : MayApply e f) (s : Consistent f) (n : ℕ) (one : 1 ≤ measure_out e f (with_number n)) (t : Tally) (m : TallyAgrees t f) where
   pub one_adjusted : (h : Account → Option Account) → ((g : RowMeasure) → measure_out e f (adjusted_measure (λ a. only (numbered n a) (h a) a) g) ≡ measure_in e f (of_tally_row g)) →
       (g : RowMeasure) → total (on_account g) (adjust (λ a. only (numbered n a) (h a) a) t.accounts) ≡ everywhere (of_tally_row g) (apply e f)
-  one_adjusted h goers = sums_adjusted (with_number n) (λ a. only (numbered n a) (h a) a) e f t.accounts fit s (rest_other e f fit s.accounted n one)
+  one_adjusted h goers = sums_adjusted (with_number n) (λ a. only (numbered n a) (h a) a) e f t.accounts fit s (untouched_unnumbered e f fit s.accounted n one)
       (λ p o z. unnamed_stays n (h (account p (tally_row p o))) p o z) goers m.sums
 
   -- a sum that counts only this order
@@ -216,7 +219,7 @@ module _ (e : Event) (f : MatchState) (fit : MayApply e f) (s : Consistent f) (n
         over_nothing q,
         before_event g e f fit,
         over_agree q None (with_number n) g (λ _ _. 0)
-            (λ p x k. cond-false (eqb x.number n) (w p x) 0 (counts_nothing (eqb x.number n) k)) (rest_other e f fit s.accounted n one),
+            (λ p x k. cond-false (eqb x.number n) (w p x) 0 (counts_nothing (eqb x.number n) k)) (untouched_unnumbered e f fit s.accounted n one),
       )
 
 pub tally_agrees_cancels_incoming : (c : Cause) (o : Order) (f : MatchState) → MayApply (cancels_incoming c o) f → Consistent f → (t : Tally) → TallyAgrees t f →
@@ -254,6 +257,7 @@ tally_agrees_triggers z x f fit s room t m =
 abbrev rested_account : Account → Option Account
 rested_account a = Some (rested a.status a.order)
 
+-- 1 for an incoming order
 abbrev incoming_only : Measure
 incoming_only incoming o = 1
 incoming_only _ o = 0

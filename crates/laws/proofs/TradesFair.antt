@@ -1,4 +1,4 @@
--- Each trade is fair by the tally that goes with the match state.
+-- Each trade is fair by the tally that agrees with the match state.
 use Rattle.std.proofs.Common.{◌≡◌, ℕ, ◌+◌, ◌<◌, Bool, true, false, cond, ◌&&◌, ◌||◌, eqb, ◌⊎◌, List, [], ◌∷◌, Some, sym, refl, ◌∙◌, subst, inl, inr, arith}
 use Rattle.std.specs.List.{AllByRecursion, slice_get}
 use Rattle.std.proofs.lemmas.Bool.{cond-true, both_ways, eq-eqb, or_left, or_right, leb-true, le-leb}
@@ -28,14 +28,15 @@ use Rattle.laws.proofs.RunsToRest.{Consistent}
 use Rattle.laws.proofs.TallyAgrees.{RowMeasure, of_tally_row, TallyAgrees, traders_only, counts_nothing}
 use Rattle.laws.proofs.FirstPrices.{none_stands}
 
--- who stands ahead of an order in the tally, counted
+-- how many accounts stand ahead of an order
 abbrev count_ahead : Tally → OrderRow → ℕ
 count_ahead t x = total (λ a. cond (stands_on x.side a.status a.order && ranks_ahead (order_rank a.order) (order_rank x)) 1 0) t.accounts
 
+-- 1 where a price is past the limit of an order
 abbrev past_limit : Price → OrderRow → ℕ
 past_limit price x = cond (within_limit x.side x.price price) 0 1
 
--- nobody of its side stands ahead of an order that trades
+-- no order of its side stands ahead of an order that trades
 
 later_key : (a b : Rank) → b.key < a.key → ranks_ahead a b ≡ false
 later_key a b h = grind (arith, nat_tests)

@@ -26,7 +26,7 @@ use Rattle.laws.specs.Tally.{stands}
 use Rattle.laws.specs.Reaching.{front_traded}
 use Rattle.laws.specs.WithinRoom.{event_lines}
 use Rattle.laws.proofs.SortedLists.{Sorted}
-use Rattle.laws.proofs.ConsistentQueues.{ConsistentQueues, OnSide, at_own, none_within_limit}
+use Rattle.laws.proofs.ConsistentQueues.{ConsistentQueues, OnSide, at_same_side, none_within_limit}
 use Rattle.laws.proofs.SumsOverOrders.{everywhere}
 use Rattle.laws.proofs.RowsInBounds.{refilled_row}
 use Rattle.laws.proofs.EventsApply.{MayTrade, NumbersUnique, after_outcome, after_trade_trade, rest_side}
@@ -35,7 +35,7 @@ use Rattle.laws.proofs.TurnsBelowStamp.{turn_undrawn, turn_below}
 use Rattle.laws.proofs.RunsToRest.{Consistent, consistent_apply, RunsTo, at_end, at_next, RoomForRest, next_has_room, rest_has_room, run_events_runs}
 use Rattle.laws.proofs.ReachFalls.{reach_none_within, reach_own, reach_front_traded}
 
--- what is written stays written
+-- the lines of a tape stay
 
 pub total-++ : {X : Type 0} (f : X → ℕ) (l k : List X) → total f (l ++ k) ≡ total f l + total f k
 total-++ f [] k = omega arith
@@ -83,14 +83,14 @@ module _ (turn lots : ℕ) (o : Order) where
   pub same_reach : (l : List Order) → reach (order_refilled turn lots o) l ≡ reach o l
   same_reach l = ap (λ m. reach_by m (order_refilled turn lots o) l) (same_own l) ∙ same_by (own_price o l) l
 
--- who stands has an early turn
-all_early : (stamp : ℕ) (l : List Order) → total (turn_undrawn stamp stands) l ≡ 0 → AllByRecursion (λ (y : Order). y.turn < stamp) l
-all_early stamp [] e = tt
-all_early stamp (y ∷ l) e = (turn_below stamp stands y (omega arith), all_early stamp l (omega arith))
+-- the turn of a standing order is below the next stamp
+all_turns_drawn : (stamp : ℕ) (l : List Order) → total (turn_undrawn stamp stands) l ≡ 0 → AllByRecursion (λ (y : Order). y.turn < stamp) l
+all_turns_drawn stamp [] e = tt
+all_turns_drawn stamp (y ∷ l) e = (turn_below stamp stands y (omega arith), all_turns_drawn stamp l (omega arith))
 
 pub standing_turns_drawn : (s : Side) (f : MatchState) → everywhere (turn_undrawn f.session.next_stamp) f ≡ 0 → AllByRecursion (λ (y : Order). y.turn < f.session.next_stamp) (at s f.queues.stands)
-standing_turns_drawn Buy f e = all_early f.session.next_stamp f.queues.stands.buy (omega arith)
-standing_turns_drawn Sell f e = all_early f.session.next_stamp f.queues.stands.sell (omega arith)
+standing_turns_drawn Buy f e = all_turns_drawn f.session.next_stamp f.queues.stands.buy (omega arith)
+standing_turns_drawn Sell f e = all_turns_drawn f.session.next_stamp f.queues.stands.sell (omega arith)
 
 -- the queue that a trade met, when all that its first order shows was traded
 queue_front_traded : (o r : Order) (rest : List Order) (f : MatchState) → MayTrade o r f → ConsistentQueues f.queues → NumbersUnique f → at (opposite o.side) f.queues.stands ≡ r ∷ rest →
@@ -113,7 +113,7 @@ queue_front_traded o r rest f h g s e k =
         n = f.session.next_stamp
 
         left : at r.side (taken (Orders r.side) 0 f.queues).stands ≡ rest
-        left = at_own r.side (remove (at r.side f.queues.stands) 0) f.queues.stands ∙ ap (λ l. remove l 0) e
+        left = at_same_side r.side (remove (at r.side f.queues.stands) 0) f.queues.stands ∙ ap (λ l. remove l 0) e
 
         cases : (b : Bool) → eqb r.open_lots r.shown ≡ b →
             at r.side (after_outcome (cond b filled (cond (eqb r.shown r.shown) refilled reduced)) r.shown f.session.next_stamp r
@@ -123,8 +123,9 @@ queue_front_traded o r rest f h g s e k =
             let y : Order = order_refilled f.session.next_stamp r.shown r in
             let t : Queues = taken (Orders r.side) 0 f.queues in
             subst (λ b. at r.side (after_outcome (cond b refilled reduced) r.shown f.session.next_stamp r f.queues).stands ≡ put_by_rank rank_of y rest) (sym (eq-eqb r.shown r.shown refl))
-            (at_own r.side (put_by_rank rank_of y (at r.side t.stands)) t.stands ∙ ap (put_by_rank rank_of y) left)
+            (at_same_side r.side (put_by_rank rank_of y (at r.side t.stands)) t.stands ∙ ap (put_by_rank rank_of y) left)
 
+-- the lots of a number on the trade lines
 abbrev pub traded_on : ℕ → MatchState → ℕ
 traded_on n f = total (traded_lots n) (tape f)
 

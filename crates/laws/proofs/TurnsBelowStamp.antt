@@ -12,7 +12,7 @@ use Rattle.laws.proofs.SumsOverOrders.{Measure, of_incoming, everywhere, over_le
 use Rattle.laws.proofs.EventsApply.{MayApply, of_outcome, measure_out, measure_in, untouched_queues, before_event, after_event, NumbersUnique}
 use Rattle.laws.proofs.LinesAndStamps.{RoomFor, stamp_is}
 
--- 1 for an order whose turn is yet to come
+-- 1 for an order whose turn is not drawn yet, else 0
 abbrev pub turn_undrawn : ℕ → Measure
 turn_undrawn stamp p o = cond (ltb o.turn stamp) 0 1
 
@@ -22,7 +22,7 @@ turn_drawn stamp p o h = cond-true (ltb o.turn stamp) 0 1 (lt-ltb o.turn stamp h
 pub turn_below : (stamp : ℕ) (p : Status) (o : Order) → turn_undrawn stamp p o ≡ 0 → o.turn < stamp
 turn_below stamp p o e = cond_both {A = ℕ} (ltb o.turn stamp) 0 1 (λ n. n ≡ 0 → o.turn < stamp) (λ k _. ltb-true o.turn stamp k) (λ _ z. absurd (omega arith)) e
 
--- later, no more are late
+-- a turn that is drawn stays drawn
 turns_undrawn_fall : (stamp more : ℕ) (p : Status) (o : Order) → turn_undrawn (stamp + more) p o ≤ turn_undrawn stamp p o
 turns_undrawn_fall stamp more p o = cond_both {A = ℕ} (ltb o.turn stamp) 0 1 (λ n. turn_undrawn (stamp + more) p o ≤ n)
     (λ e. let k = turn_drawn (stamp + more) p o (omega (arith, ltb-true o.turn stamp e)) in omega arith)
@@ -36,7 +36,7 @@ outcome_turn filled lots stamp r h = refl
 outcome_turn refilled lots stamp r h = turn_drawn (stamp + 1) stands (order_refilled stamp lots r) (omega arith)
 outcome_turn reduced lots stamp r h = turn_drawn (stamp + 0) stands (order_reduced lots r) (omega arith)
 
--- nobody that an event puts down is late
+-- the turns of the orders that an event puts in are drawn
 in_turns_drawn : (e : Event) (f : MatchState) → MayApply e f → measure_out e f (turn_undrawn f.session.next_stamp) ≡ 0 → measure_in e f (turn_undrawn (f.session.next_stamp + event_stamps e)) ≡ 0
 in_turns_drawn (accepts o) f h g = turn_drawn (f.session.next_stamp + 1) incoming o (omega (arith, h.turn))
 in_turns_drawn (accepts_stop x) f h g = turn_drawn (f.session.next_stamp + 1) waits x.order (omega (arith, h.enters.turn))

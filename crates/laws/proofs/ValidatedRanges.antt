@@ -1,4 +1,4 @@
--- What the checks of a form give: an entry that is proper, a change within its ranges.
+-- What the checks of a form give: a valid entry, a change within its ranges (numbers 3).
 use Rattle.std.proofs.Common.{◌≡◌, ℕ, ◌≤◌, false, ◌&&◌, ◌||◌, ltb, leb, Some, None, Ok, Err, Option, Result, unwrap_or, arith}
 use Rattle.std.proofs.lemmas.Bool.{cond_both, and_parts, leb-true, or_parts, ltb-false}
 use Rattle.std.proofs.lemmas.Bool.Decides.{nat_tests}
@@ -22,7 +22,7 @@ use Rattle.laws.proofs.ConsistentQueues.{InPriceRange}
 use Rattle.laws.proofs.RowsInBounds.{QuantityAllowed}
 use Rattle.laws.proofs.EntryArrives.{PricesInRange, ValidEntry}
 
--- of the value of an Ok, or of a Some
+-- a claim of the value of an Ok, or of a Some
 abbrev pub IfOk : {A : Type 0} → (A → Type 0) → Result A Refusal → Type 0
 IfOk P (Ok x) = P x
 IfOk P (Err e) = Unit {0}
@@ -40,7 +40,7 @@ pub any_ok : {A : Type 0} (r : Result A Refusal) → IfOk (λ _. Unit {0}) r
 any_ok (Ok x) = tt
 any_ok (Err e) = tt
 
--- a step of a reading whose value does not matter
+-- a check of which only that it passes matters
 any_then : {A B : Type 0} (P : B → Type 0) (r : Result A Refusal) (k : A → Result B Refusal) → ((x : A) → IfOk P (k x)) → IfOk P (and_then r k)
 any_then P (Ok x) k next = next x
 any_then P (Err e) k next = tt
@@ -72,6 +72,7 @@ order_type_ok StopType None trigger p t = tt
 pub allowed_from : (q d : ℕ) → 1 ≤ q → q ≤ 1000000 → disclosed_barred q d ≡ false → QuantityAllowed q d
 allowed_from q d some few e = record { some = some; few = few; parts = λ h. grind (arith, nat_tests) }
 
+-- the cells of an entry are within their ranges
 pub record EntryInRanges (a : NewOrder) : Type 0 where
   pub price_in_range : PricesInRange a.order_type
   pub some : 1 ≤ a.quantity
@@ -114,6 +115,7 @@ entry_ok f = go (wrong_blank f)
     go None = ok_then EntryInRanges ValidEntry (typed_entry f) if_allowed (typed_ok f) allowed_ok
     go (Some cell) = tt
 
+-- the cells of a change are within their ranges
 pub record ChangeInRanges (c : Amendment) : Type 0 where
   pub price : IfSome InPriceRange c.price
   pub quantity : IfSome (λ n. (1 ≤ n) × (n ≤ 1000000)) c.quantity

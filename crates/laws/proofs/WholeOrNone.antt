@@ -1,4 +1,5 @@
--- An entry that wants all trades whole or not at all, one with a minimum at least that or not at all; and what reach means, in every state of a run.
+-- An entry that wants all trades whole or not at all, one with a minimum at least that or not at all; and what reach means, in every state
+-- of a run.
 use Rattle.std.proofs.Common.{◌≡◌, ℕ, ◌+◌, ◌≤◌, Bool, true, false, cond, ◌&&◌, ◌||◌, eqb, ltb, ◌++◌, Some, None, Ok, Err, Option, Result, sym, refl, ap, ◌∙◌, subst, inl, inr, arith}
 use Rattle.std.proofs.lemmas.Bool.{cond_both, cond-true, both_ways, or_parts, ltb-false, eq-eqb}
 use Rattle.orders.specs.declared.side.Validity.{Validity}
@@ -45,7 +46,7 @@ use Rattle.laws.proofs.WholeRuns.{after_set_up}
 use Rattle.laws.proofs.ReachFalls.{reach_is_unlimited_trade}
 use Rattle.laws.proofs.TradesReach.{runs_to_more, runs_to_quantity, standing_turns_drawn, traded_on, run_to_rest_trades}
 
--- an order that wants all never waits
+-- an order that wants all is immediate
 all_is_immediate : (v : Validity) → all_or_none v ≡ true → is_immediate v ≡ true
 all_is_immediate ForDay e = e
 all_is_immediate Gtc e = e
@@ -53,6 +54,7 @@ all_is_immediate Ioc e = refl
 all_is_immediate Fok e = refl
 
 module _ (a : NewOrder) (f : MatchState) (p : ValidEntry a) (s : RoomForStep f) (c : Quiescent f) where
+  -- after an entry's first event and the run to rest, the entry is filled as it asked
   abbrev FilledAfter : Event → Type 0
   FilledAfter e = BeginsStep e → MayApply e f → Filled a (traded_on f.session.next_stamp (run_to_rest (apply e f)))
 
@@ -60,7 +62,7 @@ module _ (a : NewOrder) (f : MatchState) (p : ValidEntry a) (s : RoomForStep f) 
   none_yet : traded_on f.session.next_stamp f ≡ 0
   none_yet = omega (arith, c.consistent.accounted.balanced f.session.next_stamp, c.consistent.accounted.unused f.session.next_stamp (omega arith))
 
-  -- lots are accounted for at the step's end
+  -- no more is traded than was asked, less what was cancelled
   traded_at_most : (e : Event) (b : BeginsStep e) (fit : MayApply e f) →
       traded_on f.session.next_stamp (run_to_rest (apply e f)) + total (cancelled_lots f.session.next_stamp) (event_lines e ++ tape f) ≤ quantity_of f.session.next_stamp (event_lines e ++ tape f)
   traded_at_most e b fit =

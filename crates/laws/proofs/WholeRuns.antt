@@ -65,7 +65,7 @@ after_step_on (Closed o) (Opening form) q r t c m = after_step_opening form (ope
 pub after_step : (form : Form) (s : State) (t : Tally) → Quiescent (state_between_steps s) → TallyAgrees t (state_between_steps s) → AfterStep form t (state_between_steps s) (answer form s) (state_between_steps (step form s))
 after_step form s t c m = after_step_on s.day form s.queues s.tape t c m
 
--- what was written is what was said
+-- the lines that a step wrote
 taken_front : (a b : List Line) → take (length (a ++ b) - length b) (a ++ b) ≡ a
 taken_front a b =
     let n : length (a ++ b) - length b ≡ length a = omega (arith, length-append a b) in
@@ -125,7 +125,7 @@ quiescent_set_up day stamp q limit = record {
 pub tally_agrees_set_up : (day stamp : ℕ) (q : Queues) (limit : ℕ) → TallyAgrees (starting (at_least_1 stamp)) (state_between_steps (set_up day stamp q limit))
 tally_agrees_set_up day stamp q limit = record { sums = λ g. refl; turns = refl }
 
--- after any list of steps
+-- after any list of steps, and after setting up and any list of steps
 
 pub quiescent_after : (forms : List Form) (s : State) (t : Tally) → Quiescent (state_between_steps s) → TallyAgrees t (state_between_steps s) →
     Quiescent (state_between_steps (after forms s)) × TallyAgrees (tally_after forms s t) (state_between_steps (after forms s))

@@ -1,4 +1,4 @@
--- A whole step: from a quiescent match state with its tally to a quiescent match state with its tally, all its trades fair.
+-- An accepted step: from a quiescent match state with its tally to a quiescent one with its tally, all its trades fair.
 use Rattle.std.proofs.Common.{◌≡◌, ℕ, Some, Option, arith}
 use Rattle.std.specs.List.{slice_get}
 use Rattle.std.proofs.lemmas.Bool.{cond_both}
@@ -27,6 +27,7 @@ use Rattle.laws.proofs.LinesTell.{LinesTell, lines_tell_then, lines_tell_nothing
 use Rattle.laws.proofs.RoomSuffices.{RoomForStep, BeginsStep, first_has_room, rest_has_room_at_first, begins_arrival}
 use Rattle.laws.proofs.RemovalsApply.{AfterRemovals}
 
+-- what holds after an accepted step
 pub record AfterAccepted (q : Request) (t : Tally) (f g : MatchState) : Type 0 where
   pub quiescent : Quiescent g
   pub lines_tell : LinesTell q t f g
