@@ -8,7 +8,7 @@ use Rattle.forms.specs.Results.{and_then}
 use Rattle.text_sheets.specs.FormsOfLines.{lines_of_text, with_line, named_from, RefusedInLine, Blames}
 
 module _ (ls : List (List ℕ)) (k : ℕ) (forms : List Form) where
-  -- behind the last line
+  -- after the last line
   pub no_more : length ls ≤ k → named_from (k + 1) (drop k ls) forms ≡ Ok forms
   no_more h = ap (λ (xs : List (List ℕ)). named_from (k + 1) xs forms) (drop_all k ls h)
 
@@ -27,7 +27,7 @@ module _ (ls : List (List ℕ)) (k : ℕ) (forms : List Form) where
           → named_from (k + 1 + 1) (drop (k + 1) ls) after ≡ whole
       taken_here after h = sym (one_more ∙ rw h refl) ∙ named
 
--- a word that lies in a line of a text
+-- the line of a number, and the word in it that is to blame
 line_at : (ls : List (List ℕ)) (k : ℕ) (line : List ℕ) → k < length ls → line ≡ get_or ls k line → slice_get ls k ≡ Some line
 line_at [] k line h e = absurd (omega arith)
 line_at (l ∷ ls) zero line h e = ap (λ (x : List ℕ). Some x) (sym e)

@@ -1,75 +1,102 @@
--- The forms that the lines of a text name, or the first line that is refused.
-use Rattle.std.specs.Prelude.{◌≡◌, ℕ, ◌+◌, ◌-◌, ◌≤◌, true, cond, List, [], ◌∷◌, ◌++◌, length, map, Some, None, Ok, Err, Option, Result, ◌==◌, nat_le, nat_lt}
-use Rattle.std.specs.List.{slice_get, slice_split, list_all}
+-- The forms that the lines of a text name, or the refusal of the first line that cannot be taken
+-- (lines 2).
+use Rattle.std.specs.Prelude.{◌≡◌, ℕ, ◌+◌, ◌-◌, ◌≤◌, List, [], ◌∷◌, ◌++◌, length, Some, None, Ok, Err, Option, Result, ◌==◌, nat_le, nat_lt, if◌then◌else◌}
+use Rattle.std.specs.List.{slice_get, slice_split}
 use Rattle.std.specs.Option.{unwrap_or}
 use Rattle.forms.specs.Results.{and_then}
 use Rattle.forms.specs.declared.form.Form.{Form}
-use Rattle.sheets.specs.FormBounds.{form_in_bounds}
 use Rattle.sheets.specs.Layout.{part}
+use Rattle.sheets.specs.declared.sheet.TheConstants.{MOST_ROWS, MOST_BYTES}
 use Rattle.line_format.specs.Lines.{read_line}
 use Rattle.line_format.specs.Words.{next_word, bad_word}
 use Rattle.line_format.specs.declared.words.BadWord.{BadWord}
 use Rattle.sheet_writer.specs.declared.draft.Draft.{Draft}
-use Rattle.sheet_writer.specs.Drafts.{rows}
-use Rattle.sheet_writer.specs.WrittenRows.{row_written, sheet_written}
+use Rattle.sheet_writer.specs.Drafts.{DraftHolds}
+use Rattle.sheet_writer.specs.WrittenRows.{sheet_written, ReadsAs}
 use Rattle.text_sheets.specs.declared.refused.Refused.{Refused}
 use Rattle.text_sheets.specs.declared.refused.Why.{Why}
 use Rattle.text_sheets.specs.declared.refused.Why.TheVariants.{Word, Rows, Bytes}
 
--- the lines of a text, between its line ends
+-- the lines of a text, which end with a line feed, the byte 10 (lines 2)
 abbrev pub lines_of_text : List ℕ → List (List ℕ)
-lines_of_text text = slice_split (λ b. b == 10) text
+lines_of_text text = slice_split (λ byte. byte == 10) text
 
--- what is said of a line: its number, the place and length of the word that is to blame, and why
-abbrev pub refused : ℕ → BadWord → Why → Refused
-refused n w why = record { line = n; place = w.place; length = w.length; why = why }
+-- the refusal of a line: its number, the place and the length of the word to blame, and why
+-- (lines 2)
+abbrev pub refused : (number : ℕ) → BadWord → Why → Refused
+refused number word why =
+    record { line = number; place = word.place; length = word.length; why = why }
 
--- a form joins those of the lines before it; where the sheet has no place for its row, the first word of its line is to blame
-abbrev pub joined : ℕ → List ℕ → List Form → Form → Result (List Form) Refused
-joined n line forms f =
-    cond (nat_le 512 (length forms)) (Err (refused n (bad_word (next_word line 0)) Rows))
-    (cond (nat_lt 65535 (length (sheet_written (forms ++ f ∷ [])))) (Err (refused n (bad_word (next_word line 0)) Bytes))
-    (Ok (forms ++ f ∷ [])))
+-- a form joins those of the lines before it; where the sheet has no room for its row, the first
+-- word of its line is to blame (lines 2)
+abbrev pub joined : (number : ℕ) → (line : List ℕ) → List Form → Form → Result (List Form) Refused
+joined number line forms form =
+    let first = bad_word (next_word line 0) in
+    if nat_le MOST_ROWS (length forms) then Err (refused number first Rows)
+    else if nat_lt MOST_BYTES (length (sheet_written (forms ++ form ∷ [])))
+    then Err (refused number first Bytes)
+    else Ok (forms ++ form ∷ [])
 
--- one line more: no row, a form, or a word that spoils it
-abbrev pub with_read : ℕ → List ℕ → List Form → Result (Option Form) BadWord → Result (List Form) Refused
-with_read n line forms (Ok None) = Ok forms
-with_read n line forms (Ok (Some f)) = joined n line forms f
-with_read n line forms (Err w) = Err (refused n w Word)
+-- one line more: no row, a form, or a word that the line is refused for (lines 2)
+abbrev pub with_read : (number : ℕ) → (line : List ℕ) → List Form
+    → Result (Option Form) BadWord → Result (List Form) Refused
+with_read number line forms (Ok None) = Ok forms
+with_read number line forms (Ok (Some form)) = joined number line forms form
+with_read number line forms (Err word) = Err (refused number word Word)
 
-abbrev pub with_line : ℕ → List ℕ → List Form → Result (List Form) Refused
-with_line n line forms = with_read n line forms (read_line line)
+abbrev pub with_line : (number : ℕ) → (line : List ℕ) → List Form → Result (List Form) Refused
+with_line number line forms = with_read number line forms (read_line line)
 
--- line by line, of which the first is number n
-abbrev pub named_from : ℕ → List (List ℕ) → List Form → Result (List Form) Refused
-named_from n [] forms = Ok forms
-named_from n (line ∷ rest) forms = and_then (with_line n line forms) (named_from (n + 1) rest)
+-- the first refusal ends the reading
+abbrev pub and_then : Result (List Form) Refused → (List Form → Result (List Form) Refused) → Result (List Form) Refused
+and_then (Ok forms) f = f forms
+and_then (Err e) f = Err e
 
+-- line by line, of which the first has this number
+abbrev pub named_from : (number : ℕ) → List (List ℕ) → List Form → Result (List Form) Refused
+named_from number [] forms = Ok forms
+named_from number (line ∷ rest) forms =
+    and_then (with_line number line forms) (named_from (number + 1) rest)
+
+-- the forms that a text names, or the refusal of its first line that cannot be taken (lines 2)
 abbrev pub forms_named : List ℕ → Result (List Form) Refused
 forms_named text = named_from 1 (lines_of_text text) []
 
--- the word of a text that a refusal is about
-abbrev pub word_blamed : List ℕ → Refused → List ℕ
-word_blamed text r = part (unwrap_or (slice_get (lines_of_text text) (r.line - 1)) []) (r.place - 1) r.length
+-- the word of a text that a refusal blames (lines 2)
+abbrev pub word_blamed : (text : List ℕ) → Refused → List ℕ
+word_blamed text refused =
+    let line = unwrap_or (slice_get (lines_of_text text) (refused.line - 1)) [] in
+    part line (refused.place - 1) refused.length
 
--- that word has bytes, as many as the refusal says
-pub record Blames (text : List ℕ) (r : Refused) : Type 0 where
-  pub counted : 1 ≤ r.line
-  pub some : 1 ≤ r.length
-  pub whole : length (word_blamed text r) ≡ r.length
+-- that word has bytes, as many as the refusal says (lines 2)
+pub record Blames (text : List ℕ) (refused : Refused) : Type 0 where
+  pub counted : 1 ≤ refused.line
+  pub some : 1 ≤ refused.length
+  pub whole : length (word_blamed text refused) ≡ refused.length
 
--- it is about line n, of so many bytes, and the word lies in it
-pub record RefusedInLine (n size : ℕ) (r : Refused) : Type 0 where
-  pub numbered : r.line ≡ n
-  pub from_1 : 1 ≤ r.place
-  pub some : 1 ≤ r.length
-  pub inside : r.place + r.length ≤ size + 1
+-- a refusal is of the line of this number, which has so many bytes, and blames a word in it
+pub record RefusedInLine (number size : ℕ) (refused : Refused) : Type 0 where
+  pub numbered : refused.line ≡ number
+  pub from_1 : 1 ≤ refused.place
+  pub some : 1 ≤ refused.length
+  pub inside : refused.place + refused.length ≤ size + 1
 
--- a draft has exactly the rows of some forms, each of which fits
-abbrev pub DraftHolds : Draft → List Form → Type 0
-DraftHolds d forms = (rows d ≡ map row_written forms) × (list_all form_in_bounds forms ≡ true)
+-- a draft that held some forms holds those with a line's form, or the line is refused
+abbrev pub LineAdded : (number : ℕ) → (line : List ℕ) → List Form → Draft
+    → Result (Unit {0}) Refused → Type 0
+LineAdded number line forms draft (Ok done) =
+    (after : List Form) × (with_line number line forms ≡ Ok after) × DraftHolds draft after
+LineAdded number line forms draft (Err refused) = with_line number line forms ≡ Err refused
 
--- a draft that held some forms holds a line's form besides, or the line is refused
-abbrev pub Follows : ℕ → List ℕ → List Form → Draft → Result (Unit {0}) Refused → Type 0
-Follows n line forms d (Ok done) = (after : List Form) × (with_line n line forms ≡ Ok after) × DraftHolds d after
-Follows n line forms d (Err e) = with_line n line forms ≡ Err e
+-- a sheet is made of a text: it has the rows of the forms that the lines name, and reads as these
+-- forms (lines 2)
+pub record SheetMade (text sheet : List ℕ) : Type 0 where
+  pub forms : List Form
+  pub named : forms_named text ≡ Ok forms
+  pub written : sheet ≡ sheet_written forms
+  pub back : ReadsAs forms sheet
+
+-- a text is refused for its first line that cannot be taken, and blames a word of it (lines 2)
+pub record TextRefused (text : List ℕ) (refused : Refused) : Type 0 where
+  pub first : forms_named text ≡ Err refused
+  pub blames : Blames text refused

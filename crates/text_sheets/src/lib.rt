@@ -1,4 +1,4 @@
-// Makes a sheet of a text: a line for each row.
+// Makes a sheet of a text that has a line for each row.
 #![tactic(auto)]
 
 pub mod refused;

@@ -1,11 +1,12 @@
-// Why no sheet is made of a text.
+// Refusals of a text.
 ghost use Rattle.std.specs.Prelude.{◌≡◌};
 ghost use Rattle.text_sheets.specs.FormsOfLines.{refused, word_blamed};
 
 use line_format::words::BadWord;
 use sheets::bytes::part_of;
 
-// A word that spoils its line, or a row too many, or one that would make the sheet too long.
+/// Why a text is refused: a word that its line is refused for, a row too many, or a row that would
+/// make the sheet too long.
 #[derive(Clone, Copy, Debug, PartialEq, Eq)]
 pub enum Why {
     Word,
@@ -13,7 +14,8 @@ pub enum Why {
     Bytes,
 }
 
-// The line, the place in it of the word that is to blame, both from 1, and how long that word is.
+/// A refusal of a text: the line, the place in it where the word to blame begins, both from 1, how
+/// many bytes that word has, and why.
 #[derive(Clone, Copy)]
 pub struct Refused {
     pub line: usize,
@@ -23,6 +25,7 @@ pub struct Refused {
 }
 
 impl Refused {
+    // The refusal of a line for a word.
     pub(crate) fn at(line: usize, word: BadWord, why: Why) -> Refused
         ensures { result ≡ refused line word why }
     {
@@ -34,7 +37,7 @@ impl Refused {
         }
     }
 
-    // The word of the text that is to blame.
+    /// The word of the text that is to blame.
     pub fn word(self, text: &[u8]) -> &[u8]
         ensures { result.now ≡ word_blamed text.now self }
     {

@@ -1,8 +1,8 @@
-// A text becomes a sheet, line by line.
-ghost use Rattle.std.specs.Prelude.{◌≡◌, List, length, Ok, Err, IfOk, IfErr, MatchResult, vec_items};
+// Sheets are made of texts, line by line.
+ghost use Rattle.std.specs.Prelude.{List, length, IfOk, IfErr, vec_items};
 ghost use Rattle.forms.specs.declared.form.Form.{Form};
-ghost use Rattle.sheet_writer.specs.WrittenRows.{ReadsAs, sheet_written};
-ghost use Rattle.text_sheets.specs.FormsOfLines.{forms_named, RefusedInLine, Blames, DraftHolds, Follows};
+ghost use Rattle.sheet_writer.specs.Drafts.{DraftHolds};
+ghost use Rattle.text_sheets.specs.FormsOfLines.{RefusedInLine, LineAdded, SheetMade, TextRefused};
 
 use crate::refused::{Refused, Why};
 use line_format::line::read_line;
@@ -10,15 +10,17 @@ use line_format::words::first_word;
 use sheet_writer::draft::{Draft, Excess};
 use std::alloc::{AllocError, Global};
 
-// One line more. A form that a line names has room in a row, so no value is too large.
+// Adds the row of a line, where it has one. The values of a form that is read have room in their
+// cells, so `Excess::Value` cannot come.
 fn add_line(
     heap: Global,
     draft: &mut Draft,
     number: usize,
     line: &[u8],
 ) -> Result<Result<(), Refused>, AllocError>
-    ensures answer { IfOk result (λ answer. (forms : List Form) → DraftHolds draft.old forms → Follows number line.now forms draft.new answer) }
-    ensures within { IfOk result (λ answer. IfErr answer (RefusedInLine number (length line.now))) }
+    ensures added { (forms : List Form) → DraftHolds draft.old forms
+        → IfOk result (LineAdded number line.now forms draft.new) }
+    ensures refused { IfOk result (λ answer. IfErr answer (RefusedInLine number (length line.now))) }
 {
     let form = match read_line(line) {
         Ok(Some(form)) => form,
@@ -34,12 +36,12 @@ fn add_line(
     Ok(Err(Refused::at(number, first_word(line), why)))
 }
 
-// The bytes of the sheet that a text asks for: its rows read as the forms that the lines name, in their order. Or the first
-// line that is refused. Memory may fail at any line.
+/// The bytes of the sheet of a text, whose rows read as the forms that its lines name, in their
+/// order; or the refusal of the first line that cannot be taken (docs/LINES.md, section 2). The
+/// outer error is that memory failed.
 pub fn make_sheet(heap: Global, text: &[u8]) -> Result<Result<Vec<u8>, Refused>, AllocError>
-    ensures answer { IfOk result (λ answer. MatchResult answer (λ v. (forms : List Form) × (forms_named text.now ≡ Ok forms) × (vec_items v ≡ sheet_written forms)) (λ e. forms_named text.now ≡ Err e)) }
-    ensures back { IfOk result (λ answer. IfOk answer (λ v. (forms : List Form) × (forms_named text.now ≡ Ok forms) × ReadsAs forms (vec_items v))) }
-    ensures blames { IfOk result (λ answer. IfErr answer (Blames text.now)) }
+    ensures made { IfOk result (λ answer. IfOk answer (λ v. SheetMade text.now (vec_items v))) }
+    ensures refused { IfOk result (λ answer. IfErr answer (TextRefused text.now)) }
 {
     let mut draft = Draft::new(heap);
     let mut number = 0;

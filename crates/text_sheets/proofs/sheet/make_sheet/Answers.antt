@@ -8,21 +8,18 @@ use Rattle.text_sheets.specs.FormsOfLines.{lines_of_text, forms_named}
 use Rattle.text_sheets.proofs.LineByLine.{no_more, refused_here, taken_here, blamed}
 use Rattle.text_sheets.proofs.sheet.make_sheet.Goals as goal
 
-pub returns-in-Err-clause-answer : goal.returns-in-Err-clause-answer
-returns-in-Err-clause-answer c =
+-- where a line is refused, so is the text
+pub returns-in-Err-clause-refused : goal.returns-in-Err-clause-refused
+returns-in-Err-clause-refused c =
     let t = YieldsList-turn (YieldsList-from_slice_split _ (λ b. b == 10) c.args.text.now (cc) (cc) (cc) (λ x r q k. search (rules, tests)))
     c.loop-line.yielded _ c.loop-line.yielded_by _ _ c.in-Some.line c.in-Some.is c.next.ensures.steps in
     let i = c.loop-line.invariant in
     let there = rw (← i.counted) at t in
-    let answer = rw c.in-Err.is at c.in_ok-refused.ensures.answer i.forms i.held in
-    refused_here (lines_of_text c.args.text.now) c.loop-line.number i.forms c.in-Some.line.now there (forms_named c.args.text.now) i.named c.in-Err.refused answer
-
-pub returns-in-Err-clause-blames : goal.returns-in-Err-clause-blames
-returns-in-Err-clause-blames c =
-    let t = YieldsList-turn (YieldsList-from_slice_split _ (λ b. b == 10) c.args.text.now (cc) (cc) (cc) (λ x r q k. search (rules, tests)))
-    c.loop-line.yielded _ c.loop-line.yielded_by _ _ c.in-Some.line c.in-Some.is c.next.ensures.steps in
-    let there = rw (← c.loop-line.invariant.counted) at t in
-    blamed c.args.text.now c.in-Some.line.now c.loop-line.number c.in-Err.refused there (rw c.in-Err.is at c.in_ok-refused.ensures.within)
+    let answer = rw c.in-Err.is at c.in_ok-refused.ensures.added i.forms i.held in
+    record {
+      first = refused_here (lines_of_text c.args.text.now) c.loop-line.number i.forms c.in-Some.line.now there (forms_named c.args.text.now) i.named c.in-Err.refused answer;
+      blames = blamed c.args.text.now c.in-Some.line.now c.loop-line.number c.in-Err.refused there (rw c.in-Err.is at c.in_ok-refused.ensures.refused);
+    }
 
 pub loop-line-preserved : goal.loop-line-preserved
 loop-line-preserved c =
@@ -30,7 +27,7 @@ loop-line-preserved c =
     c.loop-line.yielded _ c.loop-line.yielded_by _ _ c.in-Some.line c.in-Some.is c.next.ensures.steps in
     let i = c.loop-line.invariant in
     let there = rw (← i.counted) at t in
-    let answer = rw c.in_default.is at c.in_ok-refused.ensures.answer i.forms i.held in
+    let answer = rw c.in_default.is at c.in_ok-refused.ensures.added i.forms i.held in
     record {
       goes_on = search rules;
       ends = tt;
@@ -48,12 +45,12 @@ all_named c =
     let i = c.loop-line.invariant in
     sym i.named ∙ no_more (lines_of_text c.args.text.now) c.loop-line.number i.forms (omega (arith, i.counted, t.1))
 
-pub returns-clause-answer : goal.returns-clause-answer
-returns-clause-answer c =
+pub returns-clause-made : goal.returns-clause-made
+returns-clause-made c =
     let i = c.loop-line.invariant in
-    (i.forms, all_named c, c.in_ok-bytes.ensures.answer ∙ ap sheet_of i.held.0)
-
-pub returns-clause-back : goal.returns-clause-back
-returns-clause-back c =
-    let i = c.loop-line.invariant in
-    (i.forms, all_named c, c.in_ok-bytes.ensures.back i.forms i.held.0 i.held.1)
+    record {
+      forms = i.forms;
+      named = all_named c;
+      written = c.in_ok-bytes.ensures.answer ∙ ap sheet_of i.held.written;
+      back = c.in_ok-bytes.ensures.back i.forms i.held;
+    }
