@@ -1,4 +1,5 @@
-// Reads an order sheet from standard input, works it row by row and prints what came of it.
+// Reads a sheet from standard input, works it row by row, and prints the lines and the reply of
+// each row, and the orders left standing (docs/RULES.md, section 17).
 #![tactic(auto)]
 
 use books::book::Book;
@@ -13,17 +14,19 @@ use sheet_runner::row::work_row;
 use sheet_runner::sheet::admit;
 use sheets::replies::Replies;
 use sheets::reply::Reply;
-use sheets::sheet::Sheet;
+use sheets::sheet::{MOST_BYTES, Sheet};
 use slots::book::slot_book;
 use std::io::Read;
 use tapes::tape::Tape;
 use venue::day::Day;
 
-// One byte more than a sheet may have.
-const INPUT_BYTES: u64 = 65_536;
+// The most bytes that are read: one more than a sheet may have.
+const INPUT_BYTES: u64 = MOST_BYTES as u64 + 1;
 
+// The room of the tape, in lines.
 const TAPE_LINES: usize = 3000;
 
+// The most replies.
 const REPLY_ROOM: usize = 512;
 
 fn main(rt: HostRuntime) -> anyhow::Result<()> {
@@ -47,7 +50,8 @@ fn run(rt: &HostRuntime) -> anyhow::Result<()> {
     }
 }
 
-// Works each row and prints its lines and its reply; last, the orders left standing.
+// Works each row and prints its lines and its reply; last, the orders left standing, bids before
+// offers.
 fn work_rows<B: Book>(
     rt: &HostRuntime,
     mut sheet: Sheet,
@@ -56,7 +60,7 @@ fn work_rows<B: Book>(
     tape: &mut Tape,
     replies: &mut Replies,
 ) -> anyhow::Result<()> {
-    // StoredRow till the day is taken apart: a `?` in the loop would lose it.
+    // An error of printing waits until the day has ended, since a day cannot be dropped.
     let mut printed = Ok(());
     while let Some(drawn) = sheet.draw() {
         let before = tape.all().len();
@@ -88,13 +92,14 @@ fn print_row(
     }
 }
 
+// A reply, on a line of its own.
 fn print_reply(rt: &HostRuntime, reply: Reply) -> anyhow::Result<()> {
     let reply = ReplyText(reply);
     println!(rt; "{reply}")?;
     Ok(())
 }
 
-// The orders that stand on a side, by rank.
+// The standing orders of a side, by rank.
 fn print_queue<B: Book>(rt: &HostRuntime, book: &B, side: Side) -> anyhow::Result<()> {
     for order in orders_in(book, Queue::Orders(side)) {
         let order = StandingText(order);

@@ -1,4 +1,4 @@
-// Entering the orders of a stream.
+// The orders of a stream, entered.
 use crate::stream::Limit;
 use books::book::Book;
 use laws::calls::step;
@@ -8,7 +8,7 @@ use venue::day::Day;
 // One past the highest client number.
 const CLIENTS_END: u64 = 1_000_000_000;
 
-// How the client numbers of the stream go: upwards from 1, as members count, or downwards.
+// The client numbers of the orders: rising from 1, or falling from the highest.
 #[derive(Clone, Copy)]
 pub enum Numbering {
     Rising,
@@ -25,7 +25,7 @@ impl Numbering {
     }
 }
 
-// Enters the orders behind the first `before`; answers the day that is reached, and how many were accepted.
+// Enters orders that come after the first `before`; returns the day, and how many were accepted.
 pub fn enter_all<B: Book>(
     mut day: Day,
     book: &mut B,

@@ -1,6 +1,6 @@
-// Works a stream of limit orders through the venue on a strip book, and says how long an order took.
-// `ordermill FIRST` times the orders behind the first FIRST, which stand or have traded when the session starts;
-// `ordermill FIRST falling` gives them client numbers that fall.
+// Enters a stream of limit orders at a venue with a strip book, and prints the time that an order
+// took. `order_bench FIRST` times the orders after the first FIRST, which stand or have traded when
+// the clock starts; `order_bench FIRST falling` gives the orders client numbers that fall.
 #![tactic(auto)]
 
 mod entries;
@@ -21,10 +21,10 @@ use strips::book::strip_book;
 use tapes::line::Line;
 use tapes::tape::Tape;
 
-// Lines of tape for each order: the one that it writes, those of its trades, and what a step wants free.
+// Lines of the tape for each order: those that it writes, and those that a step needs free.
 const LINES_AN_ORDER: usize = 24;
 
-// A row that lies in a strip before anything is put there.
+// A row of a strip before any order is put there.
 fn spare() -> OrderRow {
     OrderRow {
         number: 0,
@@ -57,13 +57,14 @@ fn run(rt: &HostRuntime) -> anyhow::Result<()> {
     };
     let numbering = match env::args(rt)?.nth(2) {
         Some(word) if word.as_str() == "falling" => Numbering::Falling,
-        Some(_) => return Err(anyhow!("usage: ordermill [FIRST [falling]]")),
+        Some(_) => return Err(anyhow!("usage: order_bench [FIRST [falling]]")),
         None => Numbering::Rising,
     };
-    mill(rt, numbering, first, orders.as_slice())
+    time_orders(rt, numbering, first, orders.as_slice())
 }
 
-fn mill(
+// Enters the first orders, and then times the others.
+fn time_orders(
     rt: &HostRuntime,
     numbering: Numbering,
     first: usize,
@@ -87,7 +88,7 @@ fn mill(
         first,
         &orders[first..],
     );
-    // StoredRow till the day is taken apart: a `?` would lose it.
+    // An error of the clock waits until the day has ended, since a day cannot be dropped.
     let took = start.and_then(|start| start.elapsed(rt));
     day.end();
     let nanos = took?.as_nanos() / ((n - first).max(1) as u128);
@@ -102,6 +103,7 @@ fn mill(
     Ok(())
 }
 
+// How many lines of the tape are trades.
 fn count_trades(tape: &Tape) -> usize {
     tape.all()
         .iter()

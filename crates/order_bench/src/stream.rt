@@ -4,7 +4,7 @@ use forms::form::{EntryForm, Form};
 use orders::price::Price;
 use std::alloc::Global;
 
-// One order of the stream. The side is its published number, as an entry has it.
+// An order of the stream; its side is the number that the cell of an entry has.
 #[derive(Clone, Copy)]
 pub struct Limit {
     pub side: u64,
@@ -13,7 +13,7 @@ pub struct Limit {
 }
 
 impl Limit {
-    // The entry that asks for it: by firm 1, for the day.
+    // The entry of the order: of firm 1, for the day.
     pub fn form(self, client: u64) -> Form {
         Form::Entry(EntryForm {
             firm: Some(1),
@@ -41,6 +41,7 @@ fn side_number(word: &str) -> Option<u64> {
     }
 }
 
+// An order of one line, or none where it is no order.
 fn read_order(line: &str) -> Option<Limit> {
     let mut words = line.split(' ');
     let side = side_number(words.next()?)?;

@@ -1,4 +1,5 @@
-// One list of forty steps over the strip book, the slot book and a front card above each: they tell the same.
+// Runs one list of forty steps on the strip book, the slot book and a front card above each, and
+// prints whether they give the same lines.
 #![tactic(auto)]
 
 use books::book::Book;
@@ -22,8 +23,9 @@ mod steps;
 use books::queue_store::QueueStore;
 use steps::{first_half, second_half};
 
-// Runs the steps from day 1 and stamp 1, and tells the tape and the orders left standing.
-fn answer<B: Book>(heap: Global, book: &mut B, forms: &[Form]) -> anyhow::Result<String> {
+// Runs the steps from day 1 and stamp 1; returns the lines of the tape and the orders left
+// standing, as text.
+fn run_steps<B: Book>(heap: Global, book: &mut B, forms: &[Form]) -> anyhow::Result<String> {
     let mut tape = Tape::new(heap, 3000)?;
     let day = run(book, &mut tape, 1, 1, forms);
     day.end();
@@ -32,12 +34,13 @@ fn answer<B: Book>(heap: Global, book: &mut B, forms: &[Form]) -> anyhow::Result
         let line = LineText(*line);
         writeln!(text, "{line}")?;
     }
-    tell_side(&mut text, book, Side::Buy)?;
-    tell_side(&mut text, book, Side::Sell)?;
+    write_queue(&mut text, book, Side::Buy)?;
+    write_queue(&mut text, book, Side::Sell)?;
     Ok(text)
 }
 
-fn tell_side<B: Book>(text: &mut String, book: &B, side: Side) -> anyhow::Result<()> {
+// The standing orders of a side, by rank.
+fn write_queue<B: Book>(text: &mut String, book: &B, side: Side) -> anyhow::Result<()> {
     for order in orders_in(book, Queue::Orders(side)) {
         let standing = StandingText(order);
         writeln!(text, "{standing}")?;
@@ -45,7 +48,7 @@ fn tell_side<B: Book>(text: &mut String, book: &B, side: Side) -> anyhow::Result
     Ok(())
 }
 
-// A row that lies in a strip before anything is put there.
+// A row of a strip before any order is put there.
 fn spare() -> OrderRow {
     OrderRow {
         number: 9,
@@ -64,7 +67,7 @@ fn spare() -> OrderRow {
     }
 }
 
-// Only the two drills say it, and they share no crate for that.
+// Whether a book gave the same text as the first.
 fn verdict(first: &str, text: &str) -> &'static str {
     if first == text { "same" } else { "differs" }
 }
@@ -83,19 +86,19 @@ fn main(rt: HostRuntime) -> anyhow::Result<()> {
     let mut offers = [spare(); 32];
     let mut buys = [stop; 32];
     let mut sells = [stop; 32];
-    let first = answer(
+    let first = run_steps(
         heap,
         &mut strip_book(&mut bids, &mut offers, &mut buys, &mut sells),
         forms,
     )?;
     print!(rt; "{first}")?;
-    let text = answer(heap, &mut slot_book(), forms)?;
+    let text = run_steps(heap, &mut slot_book(), forms)?;
     println!(rt; "slots {}", verdict(&first, &text))?;
     let mut card = FrontCard::over(strip_book(&mut bids, &mut offers, &mut buys, &mut sells));
-    let text = answer(heap, &mut card, forms)?;
+    let text = run_steps(heap, &mut card, forms)?;
     println!(rt; "card above strips {}", verdict(&first, &text))?;
     let mut card = FrontCard::over(slot_book());
-    let text = answer(heap, &mut card, forms)?;
+    let text = run_steps(heap, &mut card, forms)?;
     println!(rt; "card above slots {}", verdict(&first, &text))?;
     Ok(())
 }

@@ -1,9 +1,9 @@
-// Forty mixed steps, accepted and refused.
+// Forty steps of all kinds, accepted and refused.
 use forms::form::{CancelForm, ChangeForm, EntryForm, Form, MassCancelForm, OpeningForm};
 use orders::price::Price;
 use orders::side::{Side, Validity};
 
-// What an entry may say besides side, quantity and price.
+// The terms of an entry besides side, quantity and price.
 #[derive(Clone, Copy)]
 struct Terms {
     disclosed: u64,
@@ -19,7 +19,7 @@ const PLAIN: Terms = Terms {
     minimum: 0,
 };
 
-// The published number of a side in its cell. Only tests write cells, so there is no From for it.
+// The number of a side in its cell.
 fn side_cell(side: Side) -> u64 {
     match side {
         Side::Buy => 1,
@@ -27,7 +27,7 @@ fn side_cell(side: Side) -> u64 {
     }
 }
 
-// The published number of a validity in its cell.
+// The number of a validity in its cell.
 fn validity_cell(validity: Validity) -> u64 {
     match validity {
         Validity::Day => 0,
@@ -52,7 +52,7 @@ const BLANK: EntryForm = EntryForm {
     tag: None,
 };
 
-// What every entry says; its type and what hangs on that are left blank. By parameters: a step reads as a row of a table.
+// An entry with the cells that every entry fills, but its type; the others are blank.
 fn entry(firm: u64, client: u64, side: Side, quantity: u64, validity: Validity) -> EntryForm {
     EntryForm {
         firm: Some(firm),
@@ -64,6 +64,7 @@ fn entry(firm: u64, client: u64, side: Side, quantity: u64, validity: Validity) 
     }
 }
 
+// A limit order with these terms.
 fn with(firm: u64, client: u64, side: Side, quantity: u64, hundredths: u32, terms: Terms) -> Form {
     Form::Entry(EntryForm {
         order_type: Some(b'2'),
@@ -76,6 +77,7 @@ fn with(firm: u64, client: u64, side: Side, quantity: u64, hundredths: u32, term
     })
 }
 
+// A limit order for the day that shows all of its lots.
 fn plain(firm: u64, client: u64, side: Side, quantity: u64, hundredths: u32) -> Form {
     with(firm, client, side, quantity, hundredths, PLAIN)
 }

@@ -1,19 +1,21 @@
-// A case: its rows, and the text that they should give.
+// Cases: their rows, and what these should give.
 use anyhow::anyhow;
 use forms::form::Form;
 use line_format::line::read_line;
 use std::alloc::Global;
 
-// The lines of the tape, unless a case has another size; the first stamp is 1, unless a case has another.
+// The room of the tape, in lines, unless a case gives another.
 const TAPE_LINES: usize = 3000;
 
+// A row: its text, and the form that it names.
 #[derive(Clone, Copy)]
 pub struct Row<'a> {
     pub text: &'a str,
     pub form: Form,
 }
 
-// The text expected is each row, what it writes and its reply, and last the orders that stand.
+// A case: its name, the room of its tape, its first stamp, its rows, and the lines that are
+// expected: each row, what it writes and its reply, and last the orders that stand.
 #[derive(Drop)]
 pub struct Case<'a> {
     pub name: &'a str,
@@ -24,6 +26,7 @@ pub struct Case<'a> {
 }
 
 impl<'a> Case<'a> {
+    // A case without rows, on a tape of the usual room and from stamp 1.
     pub fn new(heap: Global, name: &'a str) -> Case<'a> {
         Case {
             name,
@@ -34,7 +37,8 @@ impl<'a> Case<'a> {
         }
     }
 
-    // One line of the file more.
+    // Takes a line of the file: an expected line, the room of the tape, the first stamp, a row, or
+    // none of these.
     pub fn take_line(&mut self, heap: Global, line: &'a str) -> anyhow::Result<()> {
         if let Some(text) = line.strip_prefix("> ") {
             self.expected.push(text)?;
@@ -58,6 +62,7 @@ impl<'a> Case<'a> {
         }
     }
 
+    // A row, which is expected in the output too.
     fn take_row(&mut self, text: &'a str, form: Form) -> anyhow::Result<()> {
         self.rows.push(Row { text, form })?;
         self.expected.push(text)?;

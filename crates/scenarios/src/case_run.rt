@@ -1,4 +1,4 @@
-// Plays a case on a fresh venue and writes down what comes of it.
+// A case, run on a fresh venue.
 use crate::case::Case;
 use books::book::Book;
 use books::orders_of::orders_in;
@@ -15,13 +15,14 @@ use tapes::tape::Tape;
 use venue::day::Day;
 use venue::setup::set_up;
 
-// Each row, the lines that it writes and its reply; last, the orders that stand.
+// What a case gives, line by line: each row, the lines that it writes and its reply; last, the
+// orders that stand.
 pub fn run_case(heap: Global, case: &Case) -> Result<Vec<String>, AllocError> {
     let mut got = Vec::new(heap);
     let mut tape = Tape::new(heap, case.tape)?;
     let mut book = FrontCard::over(slot_book());
     let mut day = Day::Open(set_up(&mut book, &mut tape, 1, case.stamp));
-    // StoredRow till the day is taken apart: a `?` in the loop would lose it.
+    // An error waits until the day has ended, since a day cannot be dropped.
     let mut written = Ok(());
     for row in case.rows.as_slice() {
         let before = tape.all().len();
@@ -38,6 +39,7 @@ pub fn run_case(heap: Global, case: &Case) -> Result<Vec<String>, AllocError> {
     Ok(got)
 }
 
+// A row, the lines that it wrote, and its reply.
 fn write_row(
     heap: Global,
     got: &mut Vec<String>,
@@ -56,7 +58,7 @@ fn write_row(
     Ok(())
 }
 
-// The orders that stand on a side, by rank.
+// The standing orders of a side, by rank.
 fn write_queue<B: Book>(
     heap: Global,
     got: &mut Vec<String>,

@@ -1,4 +1,5 @@
-// Runs a file of cases from standard input, each on a fresh venue, and says which of them differ.
+// Reads a file of cases from standard input, runs each on a fresh venue, and prints which of them
+// differ (docs/LINES.md, section 3).
 #![tactic(auto)]
 
 mod case;
@@ -6,7 +7,7 @@ mod case_run;
 mod report;
 
 use case::Case;
-use report::{Tally, report};
+use report::{Counts, report};
 use std::io;
 
 fn main(rt: HostRuntime) -> anyhow::Result<()> {
@@ -16,19 +17,19 @@ fn main(rt: HostRuntime) -> anyhow::Result<()> {
 fn run(rt: &HostRuntime) -> anyhow::Result<()> {
     let heap = rt.alloc();
     let text = io::read_to_string(heap, rt.stdin())?;
-    let mut tally = Tally::default();
+    let mut counts = Counts::default();
     let mut case = Case::new(heap, "");
     for line in text.as_str().split('\n') {
         if let Some(name) = line.strip_prefix("case ") {
-            report(rt, &case, &mut tally)?;
+            report(rt, &case, &mut counts)?;
             case = Case::new(heap, name);
         } else {
             case.take_line(heap, line)?;
         }
     }
-    report(rt, &case, &mut tally)?;
-    let cases = tally.cases;
-    let differ = tally.differ;
+    report(rt, &case, &mut counts)?;
+    let cases = counts.cases;
+    let differ = counts.differ;
     println!(rt; "{cases} cases, {differ} differ")?;
     Ok(())
 }

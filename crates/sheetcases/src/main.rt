@@ -1,4 +1,5 @@
-// Reads a table of sheets from standard input, each with what the rules give it, and says which of them differ.
+// Reads a table of sheets from standard input, reads each sheet, and prints which of them are not
+// answered as the table says.
 #![tactic(auto)]
 
 mod outcome;

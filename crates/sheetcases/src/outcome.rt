@@ -1,4 +1,4 @@
-// What comes of a sheet that is read whole.
+// The answers to a sheet.
 use forms::form::{EntryForm, Form};
 use orders::price::Price;
 use sheets::replies::Replies;
@@ -7,7 +7,8 @@ use sheets::row::read_form;
 use sheets::sheet::{Drawn, Sheet};
 use std::alloc::{AllocError, Global};
 
-// A refused sheet has its one answer; any other has its replies, and the values in the accepted rows' cells.
+// A refused sheet has one answer; any other has its replies, and the values in the cells of its
+// accepted rows.
 #[derive(Drop, PartialEq)]
 pub enum Outcome {
     Refused(Reply),
@@ -18,6 +19,7 @@ pub enum Outcome {
 }
 
 impl Outcome {
+    // Reads a sheet, and accepts every row that can be read.
     pub fn of(heap: Global, bytes: &[u8]) -> Result<Outcome, AllocError> {
         match Sheet::read(bytes) {
             Ok(sheet) => read_rows(heap, sheet),
@@ -26,6 +28,7 @@ impl Outcome {
     }
 }
 
+// Reads the rows one after another, and posts a reply to each.
 fn read_rows(heap: Global, mut sheet: Sheet) -> Result<Outcome, AllocError> {
     let mut posted = Replies::new(heap, usize::from(sheet.rows()))?;
     let mut values = Vec::new(heap);
@@ -45,7 +48,7 @@ fn read_rows(heap: Global, mut sheet: Sheet) -> Result<Outcome, AllocError> {
     })
 }
 
-// Puts down the value of each cell of a form, as the row has them.
+// The value of each cell of a form, in the order of its row.
 fn push_values(values: &mut Vec<Option<u64>>, form: Form) -> Result<(), AllocError> {
     match form {
         Form::Entry(e) => push_entry(values, e),
@@ -65,6 +68,7 @@ fn push_values(values: &mut Vec<Option<u64>>, form: Form) -> Result<(), AllocErr
     }
 }
 
+// The value of each cell of an entry; a type counts as its byte.
 fn push_entry(values: &mut Vec<Option<u64>>, e: EntryForm) -> Result<(), AllocError> {
     values.extend_from_slice(&[
         e.firm,
@@ -78,6 +82,7 @@ fn push_entry(values: &mut Vec<Option<u64>>, e: EntryForm) -> Result<(), AllocEr
     values.extend_from_slice(&[e.quantity, e.disclosed, e.minimum, e.investor, e.tag])
 }
 
+// A price as its hundredths.
 fn hundredths(price: Option<Price>) -> Option<u64> {
     price.map(|p| u64::from(p.hundredths))
 }

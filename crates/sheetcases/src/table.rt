@@ -1,9 +1,11 @@
-// A line of the table: a name, the sheet's bytes, its replies, and the values in its accepted rows' cells.
+// The lines of the table.
 use crate::outcome::Outcome;
 use anyhow::{Context, bail};
 use sheets::reply::Reply;
 use std::alloc::Global;
 
+// A line of the table: a name, the bytes of the sheet, and the answers that are expected: its
+// replies, and the values in the cells of its accepted rows. Bars stand between.
 #[derive(Drop)]
 pub struct Case<'a> {
     pub name: &'a str,
@@ -24,12 +26,13 @@ impl<'a> Case<'a> {
     }
 }
 
-// The text before the next bar, and what follows it.
+// The text before the next bar, and the text after it.
 fn column<'a>(line: &'a str) -> anyhow::Result<(&'a str, &'a str)> {
     line.split_once('|').context("a column is missing")
 }
 
-// The replies' column begins with `sheet` where the sheet is refused, and then has its one answer.
+// The expected answers. Where the sheet is refused, the column of replies begins with `sheet` and
+// has the one answer.
 fn read_outcome(heap: Global, replies: &str, values: &str) -> anyhow::Result<Outcome> {
     let listed = read_replies(heap, replies)?;
     if replies.contains("sheet") {
@@ -44,7 +47,8 @@ fn read_outcome(heap: Global, replies: &str, values: &str) -> anyhow::Result<Out
     })
 }
 
-// Words as `7`, a byte, `w7`, two bytes, `'text`, its bytes, and `9*w7,0`, nine times those words.
+// Bytes, written as words: `7` is a byte, `w7` two bytes, `'text` the bytes of a text, and `9*w7,0`
+// nine times those words.
 fn read_bytes(heap: Global, text: &str) -> anyhow::Result<Vec<u8>> {
     let mut sheet = Vec::new(heap);
     for word in text.split(' ') {
@@ -56,6 +60,7 @@ fn read_bytes(heap: Global, text: &str) -> anyhow::Result<Vec<u8>> {
     Ok(sheet)
 }
 
+// The words between commas, so many times.
 fn push_often(sheet: &mut Vec<u8>, times: u16, words: &str) -> anyhow::Result<()> {
     for _ in 0..times {
         for word in words.split(',') {
@@ -65,6 +70,7 @@ fn push_often(sheet: &mut Vec<u8>, times: u16, words: &str) -> anyhow::Result<()
     Ok(())
 }
 
+// The bytes of one word.
 fn push_word(sheet: &mut Vec<u8>, word: &str) -> anyhow::Result<()> {
     if word.is_empty() {
         return Ok(());
@@ -79,7 +85,8 @@ fn push_word(sheet: &mut Vec<u8>, word: &str) -> anyhow::Result<()> {
     Ok(())
 }
 
-// Words as `2.6.4.1`, a reply, `1-3.0.0.0`, one for each of three rows, and `sheet` before the answer to a refused sheet.
+// Replies, written as words: `2.6.4.1` is a reply, `1-3.0.0.0` one for each of three rows; `sheet`
+// stands before the answer to a refused sheet.
 fn read_replies(heap: Global, text: &str) -> anyhow::Result<Vec<Reply>> {
     let mut replies = Vec::new(heap);
     for word in text.split(' ') {
@@ -90,6 +97,7 @@ fn read_replies(heap: Global, text: &str) -> anyhow::Result<Vec<Reply>> {
     Ok(replies)
 }
 
+// The same answer for each row from the first to the last.
 fn push_replies(replies: &mut Vec<Reply>, rows: &str, answer: &str) -> anyhow::Result<()> {
     let (first, last) = rows.split_once('-').unwrap_or((rows, rows));
     for row in first.parse::<u16>()?..=last.parse::<u16>()? {
@@ -98,6 +106,7 @@ fn push_replies(replies: &mut Vec<Reply>, rows: &str, answer: &str) -> anyhow::R
     Ok(())
 }
 
+// A reply by its number, cell and place.
 fn read_reply(row: u16, answer: &str) -> anyhow::Result<Reply> {
     let (number, rest) = answer.split_once('.').context("a reply has four fields")?;
     let (cell, place) = rest.split_once('.').context("a reply has four fields")?;
@@ -109,7 +118,7 @@ fn read_reply(row: u16, answer: &str) -> anyhow::Result<Reply> {
     })
 }
 
-// Words as `7`, a value, and `-`, a blank cell.
+// Values, written as words: `7` is a value, and `-` a blank cell.
 fn read_values(heap: Global, text: &str) -> anyhow::Result<Vec<Option<u64>>> {
     let mut values = Vec::new(heap);
     for word in text.split(' ') {

@@ -1,4 +1,5 @@
-// Reads a text from standard input, a line for each row, and writes the sheet of these rows.
+// Reads a text from standard input, a line for each row, and writes the bytes of the sheet
+// (docs/LINES.md, section 2).
 #![tactic(auto)]
 
 use std::io::{Read, Write};
@@ -26,7 +27,7 @@ fn run(rt: &HostRuntime) -> anyhow::Result<ExitCode> {
     }
 }
 
-// The line that is refused, its word that is to blame, and why.
+// Prints the line that is refused, the word to blame, and why.
 fn print_refused(rt: &HostRuntime, text: &[u8], refused: Refused) -> anyhow::Result<()> {
     let line = refused.line;
     let word = String::from_utf8_lossy(rt.alloc(), refused.word(text))?;
