@@ -47,11 +47,6 @@ with_read number line forms (Err word) = Err (refused number word Word)
 abbrev pub with_line : (number : ℕ) → (line : List ℕ) → List Form → Result (List Form) Refused
 with_line number line forms = with_read number line forms (read_line line)
 
--- the first refusal ends the reading
-abbrev pub and_then : Result (List Form) Refused → (List Form → Result (List Form) Refused) → Result (List Form) Refused
-and_then (Ok forms) f = f forms
-and_then (Err e) f = Err e
-
 -- line by line, of which the first has this number
 abbrev pub named_from : (number : ℕ) → List (List ℕ) → List Form → Result (List Form) Refused
 named_from number [] forms = Ok forms
