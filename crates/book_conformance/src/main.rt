@@ -1,4 +1,4 @@
-// The strip book, the slot book, and front cards above them under the same steps: they tell the same.
+// The strip book, the slot book, and front cards above them under the same steps: each call has the same answer (rules 5).
 #![tactic(auto)]
 
 ghost use Rattle.std.specs.Prelude.{◌≡◌};
@@ -15,32 +15,33 @@ use orders::price::Price;
 use orders::row::StopRow;
 use orders::side::Side;
 use slots::book::{SlotBook, slot_book};
+use slots::store::SLOTS;
 use std::io;
 use strips::book::strip_book;
 
 // An empty slot book under a front card: it means four empty queues.
 fn slots_under_card() -> FrontCard<SlotBook>
-    ensures { card_queues slot_queues result ≡ empty_queues 32 32 32 32 }
+    ensures { card_queues slot_queues result ≡ empty_queues SLOTS SLOTS SLOTS SLOTS }
 {
     FrontCard::over(slot_book())
 }
 
-// Only the two drills say it, and they share no crate for that.
+// The word that is printed for a book: whether its answers are those of the first one.
 fn verdict(first: &str, text: &str) -> &'static str {
     if first == text { "same" } else { "differs" }
 }
 
 fn main(rt: HostRuntime) -> io::Result<()> {
     let heap = rt.alloc();
-    let o = row(7, Side::Buy, 2000);
-    let x = StopRow {
-        order: o,
+    let order = row(7, Side::Buy, 2000);
+    let stop = StopRow {
+        order,
         trigger: Price { hundredths: 2000 },
     };
-    let mut bids = [o; 32];
-    let mut offers = [o; 32];
-    let mut buys = [x; 32];
-    let mut sells = [x; 32];
+    let mut bids = [order; SLOTS];
+    let mut offers = [order; SLOTS];
+    let mut buys = [stop; SLOTS];
+    let mut sells = [stop; SLOTS];
     let strips = run(
         heap,
         &mut strip_book(&mut bids, &mut offers, &mut buys, &mut sells),

@@ -1,4 +1,4 @@
-// One book, run through the steps: what each call told, and the queues at the end, as text.
+// One book under the steps: the answer of each call, and the queues at the end, as text.
 use crate::steps::{BIDS, BUYS, OFFERS, SELLS, STEPS, Step};
 use books::book::Book;
 use books::queue::{PutError, Queue, Record};
@@ -43,10 +43,10 @@ fn changed<F: FnOnce(Order) -> Order>(record: Record, change: F) -> Record
     requires { F.IsAlwaysCallable change }
 {
     match record {
-        Record::Standing(o) => Record::Standing(change(o)),
-        Record::Waiting(x) => Record::Waiting(Stop {
-            order: change(x.order),
-            trigger: x.trigger,
+        Record::Standing(order) => Record::Standing(change(order)),
+        Record::Waiting(stop) => Record::Waiting(Stop {
+            order: change(stop.order),
+            trigger: stop.trigger,
         }),
     }
 }
@@ -62,22 +62,22 @@ fn put<B: Book>(book: &mut B, record: Record) -> &'static str {
 fn rewrite<B: Book, F: FnOnce(Order) -> Order>(
     book: &mut B,
     queue: Queue,
-    at: usize,
+    index: usize,
     change: F,
 ) -> &'static str
     requires { F.IsAlwaysCallable change }
 {
-    let Some(record) = book.look(queue, at) else {
+    let Some(record) = book.look(queue, index) else {
         return "none";
     };
-    if book.rewrite(at, changed(record, change)) {
+    if book.rewrite(index, changed(record, change)) {
         "rewritten"
     } else {
         "refused"
     }
 }
 
-// The drill's own names: a Display in books would print a drill's words.
+// The names of the queues as they are printed here; the crate `books` prints nothing.
 fn name(queue: Queue) -> &'static str {
     match queue {
         Queue::Orders(Side::Buy) => "bid",
@@ -87,16 +87,16 @@ fn name(queue: Queue) -> &'static str {
     }
 }
 
-// A record's number, price or trigger, and open lots.
-fn shown(heap: Global, seen: Option<Record>) -> Result<String, AllocError> {
-    match seen {
-        Some(r) => {
-            let o = r.order();
-            let number = o.number;
-            let lots = o.open_lots;
-            let price = match r {
-                Record::Standing(o) => o.price.level(),
-                Record::Waiting(x) => x.trigger.level(),
+// A record as text: its number, its price or trigger, and its open lots.
+fn record_text(heap: Global, record: Option<Record>) -> Result<String, AllocError> {
+    match record {
+        Some(record) => {
+            let order = record.order();
+            let number = order.number;
+            let lots = order.open_lots;
+            let price = match record {
+                Record::Standing(order) => order.price.level(),
+                Record::Waiting(stop) => stop.trigger.level(),
             };
             format!(in heap; "{number} {price} {lots}")
         }
@@ -104,39 +104,41 @@ fn shown(heap: Global, seen: Option<Record>) -> Result<String, AllocError> {
     }
 }
 
-fn found(heap: Global, seen: Option<(Queue, usize)>) -> Result<String, AllocError> {
-    match seen {
-        Some((queue, at)) => {
+// The answer of find as text: a queue and a place.
+fn found_text(heap: Global, answer: Option<(Queue, usize)>) -> Result<String, AllocError> {
+    match answer {
+        Some((queue, index)) => {
             let queue = name(queue);
-            format!(in heap; "{queue} {at}")
+            format!(in heap; "{queue} {index}")
         }
         None => format!(in heap; "none"),
     }
 }
 
+// The answer of a step as text.
 fn answer<B: Book>(heap: Global, book: &mut B, step: Step) -> Result<String, AllocError> {
     match step {
         Step::Bid(n, p) => format!(in heap; "put {n}: {}", put(book, order(n, Side::Buy, p))),
         Step::Offer(n, p) => format!(in heap; "put {n}: {}", put(book, order(n, Side::Sell, p))),
         Step::BuyStop(n, p) => format!(in heap; "put {n}: {}", put(book, stop(n, Side::Buy, p))),
         Step::SellStop(n, p) => format!(in heap; "put {n}: {}", put(book, stop(n, Side::Sell, p))),
-        Step::Lower(q, at) => format!(in heap;
-            "lower {} {at}: {}",
+        Step::Lower(q, index) => format!(in heap;
+            "lower {} {index}: {}",
             name(q),
-            rewrite(book, q, at, |o| o.reduced(1))
+            rewrite(book, q, index, |order| order.reduced(1))
         ),
-        Step::Requeue(q, at) => format!(in heap;
-            "requeue {} {at}: {}",
+        Step::Requeue(q, index) => format!(in heap;
+            "requeue {} {index}: {}",
             name(q),
-            rewrite(book, q, at, |o| o.refilled(900, 1))
+            rewrite(book, q, index, |order| order.refilled(900, 1))
         ),
-        Step::Take(q, at) => {
-            let taken = shown(heap, book.take(q, at))?;
-            format!(in heap; "take {} {at}: {taken}", name(q))
+        Step::Take(q, index) => {
+            let taken = record_text(heap, book.take(q, index))?;
+            format!(in heap; "take {} {index}: {taken}", name(q))
         }
         Step::Find(n) => {
-            let there = found(heap, book.find(n))?;
-            format!(in heap; "find {n}: {there}")
+            let place = found_text(heap, book.find(n))?;
+            format!(in heap; "find {n}: {place}")
         }
     }
 }
@@ -148,19 +150,19 @@ fn listed<B: Book>(
     book: &B,
     queue: Queue,
 ) -> Result<(), AllocError> {
-    let (count, room) = book.size(queue);
-    let line = format!(in heap; "{} {count} of {room}\n", name(queue))?;
+    let (count, capacity) = book.size(queue);
+    let line = format!(in heap; "{} {count} of {capacity}\n", name(queue))?;
     text.push_str(&line)?;
-    // By place: the drill shows what a look tells, and a stop's order lacks its trigger.
-    for at in 0..count {
-        let record = shown(heap, book.look(queue, at))?;
+    // By looks and not by the iterator of the orders, since a stop's order lacks its trigger.
+    for index in 0..count {
+        let record = record_text(heap, book.look(queue, index))?;
         let line = format!(in heap; "{} {record}\n", name(queue))?;
         text.push_str(&line)?;
     }
     Ok(())
 }
 
-// Everything that a book tells, from the first step to what stands at the end and after a clear.
+// Every answer of a book under the steps, then its queues, and these again after a clear.
 pub fn run<B: Book>(heap: Global, book: &mut B) -> Result<String, AllocError> {
     let mut text = String::new(heap);
     for step in STEPS {

@@ -1,18 +1,18 @@
-// What is done to every book, step by step.
+// The steps that every book is run through.
 use books::queue::Queue;
 use orders::side::Side;
 
-// Puts name a number and a price in hundredths, of a stop its trigger; the others a queue and a place, or a number.
-// A table of values, not of closures: each step is printed by its name too.
+// Puts have a number and a price in hundredths, of a stop its trigger; the others a queue and a place, or a number.
+// A table of values, not of closures, since each step is printed by its name too.
 #[derive(Clone, Copy)]
 pub enum Step {
     Bid(u32, u32),
     Offer(u32, u32),
     BuyStop(u32, u32),
     SellStop(u32, u32),
-    // the record at a place, rewritten with a lot less
+    // The record at a place is rewritten with one lot less.
     Lower(Queue, usize),
-    // the record at a place, rewritten under another turn
+    // The record at a place is rewritten under another turn, which is refused.
     Requeue(Queue, usize),
     Take(Queue, usize),
     Find(u32),
