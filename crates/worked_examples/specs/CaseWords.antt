@@ -1,4 +1,4 @@
--- How the worked cases are written: forms, lines, and what is left in the queues.
+-- How the worked cases are written: forms, lines, and the records that are left in the queues.
 use Rattle.std.specs.Prelude.{◌≡◌, ℕ, List, [], ◌∷◌, map, reverse, Some, None, Option}
 use Rattle.orders.specs.declared.price.Price.{Price}
 use Rattle.orders.specs.declared.order.Order.{Order}
@@ -14,8 +14,8 @@ use Rattle.venue.specs.Days.{State, set_up, step}
 abbrev pub price : ℕ → Price
 price hundredths = record { hundredths = hundredths }
 
--- what an entry says besides its client number: every order is of firm 1
-pub record Ask : Type 0 where
+-- the terms of an entry besides its client number; every order is of firm 1
+pub record EntryTerms : Type 0 where
   pub side : ℕ
   pub order_type : ℕ
   pub validity : ℕ
@@ -25,51 +25,75 @@ pub record Ask : Type 0 where
   pub disclosed : ℕ
   pub investor : ℕ
 
-abbrev pub entry : ℕ → Ask → Form
-entry client a = Entry (record {
+abbrev pub entry : ℕ → EntryTerms → Form
+entry client terms = Entry (record {
   firm = Some 1;
   client = Some client;
-  side = Some a.side;
-  order_type = Some a.order_type;
-  validity = Some a.validity;
-  price = a.limit;
-  trigger = a.trigger;
-  quantity = Some a.quantity;
-  disclosed = Some a.disclosed;
+  side = Some terms.side;
+  order_type = Some terms.order_type;
+  validity = Some terms.validity;
+  price = terms.limit;
+  trigger = terms.trigger;
+  quantity = Some terms.quantity;
+  disclosed = Some terms.disclosed;
   minimum = None;
-  investor = Some a.investor;
+  investor = Some terms.investor;
   tag = None;
 })
 
--- a Day limit order: type 2, validity 0
-abbrev pub limit_order : (side quantity hundredths disclosed investor : ℕ) → Ask
-limit_order side quantity hundredths disclosed investor = record { side = side; order_type = 50; validity = 0; limit = Some (price hundredths); trigger = None; quantity = quantity; disclosed = disclosed; investor = investor }
+-- a Day limit order of a side: type 2, validity 0, nothing disclosed, no investor
+abbrev pub limit_order : (side quantity hundredths : ℕ) → EntryTerms
+limit_order side quantity hundredths = record {
+  side = side;
+  order_type = 50;
+  validity = 0;
+  limit = Some (price hundredths);
+  trigger = None;
+  quantity = quantity;
+  disclosed = 0;
+  investor = 0;
+}
 
-abbrev pub buy : (quantity hundredths : ℕ) → Ask
-buy quantity hundredths = limit_order 1 quantity hundredths 0 0
+abbrev pub buy : (quantity hundredths : ℕ) → EntryTerms
+buy quantity hundredths = limit_order 1 quantity hundredths
 
-abbrev pub sell : (quantity hundredths : ℕ) → Ask
-sell quantity hundredths = limit_order 2 quantity hundredths 0 0
+abbrev pub sell : (quantity hundredths : ℕ) → EntryTerms
+sell quantity hundredths = limit_order 2 quantity hundredths
 
--- all or nothing: validity 4
-abbrev pub fok : Ask → Ask
-fok a = record { side = a.side; order_type = a.order_type; validity = 4; limit = a.limit; trigger = a.trigger; quantity = a.quantity; disclosed = a.disclosed; investor = a.investor }
+abbrev pub disclosing : ℕ → EntryTerms → EntryTerms
+disclosing disclosed terms = record terms { disclosed = disclosed }
 
--- at market, the leftover as limit: type K
-abbrev pub market : (side quantity : ℕ) → Ask
-market side quantity = record { side = side; order_type = 75; validity = 0; limit = None; trigger = None; quantity = quantity; disclosed = 0; investor = 0 }
+abbrev pub for_investor : ℕ → EntryTerms → EntryTerms
+for_investor investor terms = record terms { investor = investor }
 
--- a stop: type 4
-abbrev pub stop : (side quantity trigger hundredths : ℕ) → Ask
-stop side quantity trigger hundredths = record { side = side; order_type = 52; validity = 0; limit = Some (price hundredths); trigger = Some (price trigger); quantity = quantity; disclosed = 0; investor = 0 }
+-- fill or kill: validity 4
+abbrev pub fok : EntryTerms → EntryTerms
+fok terms = record terms { validity = 4 }
+
+-- a market order to sell, whose leftover is a limit order: type K
+abbrev pub sell_at_market : (quantity : ℕ) → EntryTerms
+sell_at_market quantity = record (sell quantity 0) { order_type = 75; limit = None }
+
+-- a buy stop: type 4
+abbrev pub buy_stop : (quantity trigger hundredths : ℕ) → EntryTerms
+buy_stop quantity trigger hundredths =
+    record (buy quantity hundredths) { order_type = 52; trigger = Some (price trigger) }
 
 abbrev pub change : (client number quantity hundredths : ℕ) → Form
-change client number quantity hundredths = Change (record { firm = Some 1; client = Some client; number = Some number; price = Some (price hundredths); quantity = Some quantity; disclosed = None; validity = None })
+change client number quantity hundredths = Change (record {
+  firm = Some 1;
+  client = Some client;
+  number = Some number;
+  price = Some (price hundredths);
+  quantity = Some quantity;
+  disclosed = None;
+  validity = None;
+})
 
 abbrev pub cancel : (number : ℕ) → Form
 cancel number = Cancel (record { firm = Some 1; number = Some number })
 
--- the lines
+-- the lines of the tape, by kind (rules 16)
 
 abbrev pub A : (number hundredths quantity : ℕ) → Line
 A number hundredths quantity = Accepted number (Some (price hundredths)) quantity
@@ -86,7 +110,7 @@ T incoming resting hundredths lots = Traded incoming resting (price hundredths) 
 abbrev pub C : (number hundredths lots : ℕ) → Cause → Line
 C number hundredths lots cause = Cancelled number (Some (price hundredths)) lots cause
 
--- what stands or waits, as number, price, shown and open lots; bids, offers, buy stops, sell stops
+-- a record that is left, with its shown and its open lots
 
 pub record Rest : Type 0 where
   pub number : ℕ
@@ -95,32 +119,48 @@ pub record Rest : Type 0 where
   pub open_lots : ℕ
 
 abbrev pub rest : (number hundredths shown open_lots : ℕ) → Rest
-rest number hundredths shown open_lots = record { number = number; hundredths = hundredths; shown = shown; open_lots = open_lots }
+rest number hundredths shown open_lots =
+    record { number = number; hundredths = hundredths; shown = shown; open_lots = open_lots }
 
 abbrev pub rest_of : Order → Rest
-rest_of o = rest o.number o.price.hundredths o.shown o.open_lots
+rest_of order = rest order.number order.price.hundredths order.shown order.open_lots
 
+abbrev pub rest_of_stop : Stop → Rest
+rest_of_stop stop = rest_of stop.order
+
+-- bids, offers, buy stops and sell stops
 abbrev pub records_left : Queues → List (List Rest)
-records_left q = map rest_of q.stands.buy ∷ map rest_of q.stands.sell ∷ map (λ (x : Stop). rest_of x.order) q.waits.buy ∷ map (λ (x : Stop). rest_of x.order) q.waits.sell ∷ []
+records_left queues =
+    map rest_of queues.stands.buy
+    ∷ map rest_of queues.stands.sell
+    ∷ map rest_of_stop queues.waits.buy
+    ∷ map rest_of_stop queues.waits.sell
+    ∷ []
 
--- a case: from an empty book of four queues of ten, a tape of 1,000 lines, day 1 and stamp 1
+-- a case: the forms of its steps, the lines of the tape and the records left, queue by queue
 
 pub record Case : Type 0 where
   pub steps : List Form
   pub lines : List Line
-  pub open_lots : List (List Rest)
+  pub left : List (List Rest)
 
-abbrev pub ten : Queues
-ten = record { stands = record { buy = []; sell = [] }; waits = record { buy = []; sell = [] }; standing_capacity = record { buy = 10; sell = 10 }; waiting_capacity = record { buy = 10; sell = 10 } }
+-- each case starts from an empty book of capacities of 10, a tape of 1,000 lines, day 1 and stamp 1
+abbrev pub empty_book : Queues
+empty_book = record {
+  stands = record { buy = []; sell = [] };
+  waits = record { buy = []; sell = [] };
+  standing_capacity = record { buy = 10; sell = 10 };
+  waiting_capacity = record { buy = 10; sell = 10 };
+}
 
 abbrev pub run : List Form → State → State
-run [] s = s
-run (form ∷ forms) s = run forms (step form s)
+run [] state = state
+run (form ∷ forms) state = run forms (step form state)
 
 abbrev pub end : Case → State
-end c = run c.steps (set_up 1 1 ten 1000)
+end c = run c.steps (set_up 1 1 empty_book 1000)
 
--- the tape has exactly these lines, the oldest first, and the queues exactly these orders and stops
+-- the tape has exactly these lines, the oldest first, and the queues exactly these records
 pub record CaseHolds (c : Case) : Type 0 where
   pub lines : reverse (end c).tape.lines ≡ c.lines
-  pub open_lots : records_left (end c).queues ≡ c.open_lots
+  pub left : records_left (end c).queues ≡ c.left

@@ -1,9 +1,9 @@
-// The worked cases of the rules, as one theorem about the definitions.
+// The worked examples of the rules, proved of the definitions (rules 18).
 #![tactic(auto)]
 
 ghost use Rattle.worked_examples.specs.CaseTable.{WorkedCases};
 
-// Every case of the table comes out as it says: the lines, and the orders and stops left.
+/// Every case of the table holds: its steps write exactly its lines and leave exactly its records.
 pub fn worked_cases()
     ensures { WorkedCases }
 {}
