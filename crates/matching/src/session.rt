@@ -11,8 +11,8 @@ pub struct Session {
     pub last_price: Option<Price>,
 }
 
-// One above the last stamp (rules 2).
-const STAMPS_END: u32 = 1_000_000_000;
+/// One above the last stamp (rules 2).
+pub const STAMPS_END: u32 = 1_000_000_000;
 
 impl Session {
     /// A session before any trade; a first stamp of 0 counts as 1 (rules 6).

@@ -5,8 +5,8 @@ ghost use Rattle.validation.specs.Combinations.{disclosed_barred, barred};
 use matching::new_order::{NewOrder, OrderType};
 use orders::side::Validity;
 
-// An order is shown in at most 16 parts: one shown and 15 hidden (rules 3).
-const MOST_PARTS: u64 = 16;
+/// An order is shown in at most 16 parts: one shown and 15 hidden (rules 3).
+pub const MOST_PARTS: u64 = 16;
 
 /// Whether a disclosed does not fit a quantity, both in lots (rules 8, 13).
 pub fn is_disclosed_barred(quantity: u32, disclosed: u32) -> bool

@@ -10,8 +10,9 @@ use matching::session::Session;
 use orders::side::Side;
 use tapes::tape::Tape;
 
-// The lines that a step may write, and the stamps that it may draw, for each record and one more.
-const ROOM_PER_RECORD: usize = 20;
+/// The lines that a step may write, and the stamps that it may draw, for each record and one more
+/// (rules 7).
+pub const ROOM_PER_RECORD: usize = 20;
 
 // How many records a queue holds: few enough for the sum of four.
 fn count<B: Book>(book: &B, queue: Queue) -> usize
