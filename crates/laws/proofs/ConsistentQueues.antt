@@ -7,6 +7,7 @@ use Rattle.std.proofs.lemmas.Bool.Decides.{nat_tests}
 use Rattle.orders.specs.declared.side.Side.{Side}
 use Rattle.orders.specs.declared.side.Side.TheVariants.{Buy, Sell}
 use Rattle.orders.specs.declared.price.Price.{Price}
+use Rattle.orders.specs.declared.price.TheConstants.{HIGHEST}
 use Rattle.orders.specs.declared.order.Order.{Order}
 use Rattle.orders.specs.declared.order.Stop.{Stop}
 use Rattle.orders.specs.declared.rank.Rank.{Rank}
@@ -22,9 +23,9 @@ use Rattle.books.specs.Model.{Both, Queues, at, with_at, with_stands, with_waits
 use Rattle.laws.specs.Quiescence.{Uncrossed}
 use Rattle.laws.proofs.SortedLists.{Sorted, length_removed, all_removed, all_nth, sorted_removed, length_put_in, all_put_in, sorted_put_in, length_rewritten, all_rewritten, sorted_set}
 
--- a price that fits the key of a rank
+-- a price is at most the highest that an order may have, so it fits the key of a rank (rules 2)
 abbrev pub InPriceRange : Price → Type 0
-InPriceRange p = level p ≤ 4294967295
+InPriceRange p = level p ≤ HIGHEST
 
 -- prices of one level are one price
 pub price_same : (p q : Price) → level p ≡ level q → p ≡ q

@@ -21,6 +21,7 @@ use Rattle.forms.specs.declared.form.Form.{Form}
 use Rattle.forms.specs.declared.form.Form.TheVariants.{Entry, Change as ChangeStep, Cancel, MassCancel, Closing}
 use Rattle.forms.specs.declared.refusal.Refusal.{Refusal}
 use Rattle.forms.specs.declared.refusal.Refusal.TheVariants.{TapeFull, NoStamps, UnknownOrder, QuantityTraded, DisclosedBarred}
+use Rattle.matching.specs.declared.session.TheConstants.{STAMPS_END}
 use Rattle.matching.specs.declared.new_order.NewOrder.{NewOrder}
 use Rattle.matching.specs.declared.amendment.Amendment.{Amendment}
 use Rattle.matching.specs.declared.removal.Removal.TheVariants.{Matching, DayOrders}
@@ -98,8 +99,8 @@ pub lines_ok : (f : MatchState) → IfOk (λ _. length (tape f) + needed f.queue
 lines_ok f = cond_both (ltb (free_lines f.tape) (needed f.queues)) (Err TapeFull) (Ok tt) (IfOk (λ _. length (tape f) + needed f.queues ≤ f.tape.limit))
     (λ _. tt) (λ e. omega (arith, ltb-false (free_lines f.tape) (needed f.queues) e))
 
-stamps_ok : (f : MatchState) → IfOk (λ _. f.session.next_stamp + needed f.queues ≤ 1000000000) (stamps_free f.queues f.session)
-stamps_ok f = cond_both (ltb (undrawn_stamps f.session) (needed f.queues)) (Err NoStamps) (Ok tt) (IfOk (λ _. f.session.next_stamp + needed f.queues ≤ 1000000000))
+stamps_ok : (f : MatchState) → IfOk (λ _. f.session.next_stamp + needed f.queues ≤ STAMPS_END) (stamps_free f.queues f.session)
+stamps_ok f = cond_both (ltb (undrawn_stamps f.session) (needed f.queues)) (Err NoStamps) (Ok tt) (IfOk (λ _. f.session.next_stamp + needed f.queues ≤ STAMPS_END))
     (λ _. tt) (λ e. omega (arith, ltb-false (undrawn_stamps f.session) (needed f.queues) e))
 
 -- a record has the place where it was found

@@ -6,6 +6,7 @@ use Rattle.tapes.specs.declared.line.Line.{Line}
 use Rattle.tapes.specs.declared.line.Line.TheVariants.{Accepted, Cancelled}
 use Rattle.tapes.specs.declared.cause.Cause.TheVariants.{NoOpposite}
 use Rattle.tapes.specs.Logs.{Log, line_added}
+use Rattle.matching.specs.declared.session.TheConstants.{STAMPS_END}
 use Rattle.matching.specs.declared.session.Session.{Session}
 use Rattle.matching.specs.Sessions.{stamp_after}
 use Rattle.laws.specs.WithinRoom.{event_lines, outcome_stamps, event_stamps}
@@ -18,7 +19,7 @@ tape f = f.tape.lines
 -- a free line for each that the event writes, and an undrawn stamp if it draws one
 pub record RoomFor (e : Event) (f : MatchState) : Type 0 where
   pub free_lines : length (event_lines e) + length (tape f) ≤ f.tape.limit
-  pub free_stamps : 1 ≤ event_stamps e → f.session.next_stamp < 1000000000
+  pub free_stamps : 1 ≤ event_stamps e → f.session.next_stamp < STAMPS_END
 
 one_line : (l : Line) (r : Log) → length r.lines < r.limit → (line_added l r).lines ≡ l ∷ r.lines
 one_line l r h = cond-true (ltb (length r.lines) r.limit) (l ∷ r.lines) r.lines (lt-ltb (length r.lines) r.limit h)
@@ -41,10 +42,10 @@ tape_is (cancels_resting c n i r) f h = one_line (line_C c (order_of_record r)) 
 tape_is (amends i o) f h = one_line (line_R o) f.tape (omega (arith, h.free_lines))
 tape_is (requeues s i o) f h = one_line (line_R o) f.tape (omega (arith, h.free_lines))
 
-one_stamp : (n : ℕ) → n < 1000000000 → stamp_after n ≡ n + 1
-one_stamp n h = cond-true (ltb n 1000000000) (n + 1) n (lt-ltb n 1000000000 h)
+one_stamp : (n : ℕ) → n < STAMPS_END → stamp_after n ≡ n + 1
+one_stamp n h = cond-true (ltb n STAMPS_END) (n + 1) n (lt-ltb n STAMPS_END h)
 
-drawn_is : (k : RestingOutcome) (c : Session) → (1 ≤ outcome_stamps k → c.next_stamp < 1000000000) → (session_after_trade k c).next_stamp ≡ c.next_stamp + outcome_stamps k
+drawn_is : (k : RestingOutcome) (c : Session) → (1 ≤ outcome_stamps k → c.next_stamp < STAMPS_END) → (session_after_trade k c).next_stamp ≡ c.next_stamp + outcome_stamps k
 drawn_is refilled c h = one_stamp c.next_stamp (h (omega arith))
 drawn_is _ c h = omega arith
 

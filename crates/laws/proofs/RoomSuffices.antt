@@ -13,6 +13,7 @@ use Rattle.books.specs.declared.queue.Record.TheVariants.{Waiting}
 use Rattle.books.specs.declared.queue.PutError.TheVariants.{Full, Twice}
 use Rattle.books.specs.Model.{Queues, at, with_waits, stop_rank_of, taken, put_answer, PutAnswer}
 use Rattle.tapes.specs.declared.cause.Cause.TheVariants.{ShortReach}
+use Rattle.matching.specs.declared.session.TheConstants.{STAMPS_END}
 use Rattle.matching.specs.declared.new_order.OrderType.{OrderType}
 use Rattle.matching.specs.declared.new_order.OrderType.TheVariants.{Limit, Market, StopLimit}
 use Rattle.matching.specs.declared.new_order.NewOrder.{NewOrder}
@@ -30,7 +31,7 @@ use Rattle.laws.proofs.RunsToRest.{RoomForRest}
 -- the room that an entry or a change asks for (rules 7)
 pub record RoomForStep (f : MatchState) : Type 0 where
   pub free_lines : length (tape f) + needed f.queues ≤ f.tape.limit
-  pub free_stamps : f.session.next_stamp + needed f.queues ≤ 1000000000
+  pub free_stamps : f.session.next_stamp + needed f.queues ≤ STAMPS_END
 
 total_most : (l : List Order) → total parts l ≤ 16 * length l
 total_most [] = omega arith

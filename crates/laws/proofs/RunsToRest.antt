@@ -14,6 +14,7 @@ use Rattle.books.specs.declared.queue.Record.{Record}
 use Rattle.books.specs.declared.queue.Record.TheVariants.{Standing, Waiting}
 use Rattle.books.specs.declared.queue.PutError.TheVariants.{Full, Twice}
 use Rattle.books.specs.Model.{Queues, at, rank_of, stop_rank_of, count, capacity, queue_of, number_of, found, standing_order, waiting_stop, put_answer, PutAnswer}
+use Rattle.matching.specs.declared.session.TheConstants.{STAMPS_END}
 use Rattle.matching.specs.Model.{MatchState, Event, cancels_incoming, trades, rests, triggers, RestingOutcome, filled, refilled, reduced, outcome, trade_lots, apply}
 use Rattle.matching.specs.Running.{next_event, next_given, first_order, first_stop, ripe, if_ripe, lower_turn, trigger_event, run_events, weight, run_to_rest}
 use Rattle.matching.proofs.WeightFalls.{NoMatch, IsNext, is_next, run_events_next, run_events_zero, weight_falls}
@@ -112,7 +113,7 @@ runs_to_consistent (at_next {f} e n r l) s = runs_to_consistent l (consistent_ap
 -- room for all that may still happen: a free line and an undrawn stamp for each of the weight
 pub record RoomForRest (f : MatchState) : Type 0 where
   pub free_lines : length (tape f) + weight f ≤ f.tape.limit
-  pub free_stamps : f.session.next_stamp + weight f ≤ 1000000000
+  pub free_stamps : f.session.next_stamp + weight f ≤ STAMPS_END
 
 pub next_has_room : (e : Event) (f : MatchState) → IsNext e f → suc (weight (apply e f)) ≤ weight f → RoomForRest f → RoomFor e f
 next_has_room e f i w h = let a = one_line_each e f i in record { free_lines = omega (arith, h.free_lines, a.0); free_stamps = λ _. omega (arith, h.free_stamps) }

@@ -15,7 +15,7 @@ use Rattle.books.specs.declared.queue.PutError.TheVariants.{Full, Twice}
 use Rattle.books.specs.declared.queue.Queue.TheVariants.{Orders}
 use Rattle.books.specs.declared.queue.Record.TheVariants.{Standing}
 use Rattle.books.specs.Model.{Queues, put_answer, taken, PutAnswer}
-use Rattle.matching.specs.Model.{MatchState, Event, accepts, accepts_stop, accepts_and_cancels, accepts_unmatched, cancels_incoming, trades, rests, triggers, cancels_resting, amends, requeues, outcome, after_trade, incoming_left, trade_lots, apply}
+use Rattle.matching.specs.Model.{MatchState, Event, cancels_incoming, trades, rests, triggers, outcome, after_trade, incoming_left, trade_lots, apply}
 use Rattle.matching.specs.Running.{next_event, next_given, first_order, first_stop, rests_or_cancels, leftover, incoming_event, ripe, if_ripe, lower_turn, trigger_event, go_on_with, run_events, parts, incoming_weight, queues_weight, weight, run_to_rest}
 use Rattle.matching.proofs.OutcomeCases.{outcome_cases, incoming_left_cases}
 use Rattle.matching.proofs.PartsFall.{parts_most, parts_least, parts_refilled}

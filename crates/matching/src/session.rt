@@ -11,7 +11,7 @@ pub struct Session {
     pub last_price: Option<Price>,
 }
 
-/// One above the last stamp (rules 2).
+// One past the last stamp.
 pub const STAMPS_END: u32 = 1_000_000_000;
 
 impl Session {
