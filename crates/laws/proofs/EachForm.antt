@@ -54,7 +54,7 @@ use Rattle.laws.proofs.EntryArrives.{ValidEntry}
 use Rattle.laws.proofs.ChangeApplies.{ValidChange}
 use Rattle.laws.proofs.RoomSuffices.{RoomForStep}
 use Rattle.laws.proofs.RemovalsApply.{RoomForRemovals, found_record_at, after_one_removal, after_removals}
-use Rattle.laws.proofs.WholeSteps.{AfterAccepted, accepted_removals, accepted_entry, accepted_change}
+use Rattle.laws.proofs.AcceptedSteps.{AfterAccepted, accepted_removals, accepted_entry, accepted_change}
 use Rattle.laws.proofs.ValidatedRanges.{IfOk, IfSome, ok_then, entry_ok, ChangeInRanges, change_ok, allowed_from, any_ok}
 
 -- what holds after a step, by its answer

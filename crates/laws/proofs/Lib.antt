@@ -16,7 +16,7 @@ pub mod ChangeApplies
 pub mod LinesTell
 pub mod RoomSuffices
 pub mod RemovalsApply
-pub mod WholeSteps
+pub mod AcceptedSteps
 pub mod ValidatedRanges
 pub mod EachForm
 pub mod WholeRuns

@@ -27,11 +27,13 @@ abbrev pub session_of : Day → Session
 session_of (Open day) = day.session
 session_of (Closed day) = day.session
 
+-- what holds between steps (rules 10, 12)
 pub record Lawful (state : State) : Type 0 where
   pub balanced : Balanced state.tape.lines state.queues
   pub uncrossed : Uncrossed state.queues.stands
   pub unripe : Unripe (session_of state.day).last_price state.queues
 
+-- a claim holds at the start and after each step
 abbrev pub Throughout : (State → Type 0) → List Form → State → Type 0
 Throughout Claim [] state = Claim state
 Throughout Claim (form ∷ forms) state = Claim state × Throughout Claim forms (step form state)
@@ -65,10 +67,12 @@ abbrev pub tally_fed : Result (Unit {0}) Refusal → Request → List Line → T
 tally_fed (Ok done) asked lines tally = incoming_rested (noted asked lines tally)
 tally_fed (Err refusal) asked lines tally = tally
 
+-- the tally after one more step
 abbrev pub tallied : Form → State → Tally → Tally
 tallied form state tally =
     tally_fed (answer form state) (request form) (step_lines state (step form state)) tally
 
+-- the lines of each step are fair by the tally before it
 abbrev pub FairThroughout : List Form → State → Tally → Type 0
 FairThroughout [] state tally = Unit {0}
 FairThroughout (form ∷ forms) state tally =

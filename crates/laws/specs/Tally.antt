@@ -26,10 +26,12 @@ use Rattle.matching.specs.Reach.{better}
 pub data Status : Type 0 where
   stands waits incoming : Status
 
+-- an order of the tally: where it is, and its row
 pub record Account : Type 0 where
   pub status : Status
   pub order : OrderRow
 
+-- a tally: its orders, and the next turn
 pub record Tally : Type 0 where
   pub accounts : List Account
   pub turn : ℕ

@@ -69,6 +69,7 @@ outcome_put refilled lots stamp resting queues =
     put_answer (Standing (order_refilled stamp lots resting)) queues ≡ Ok tt
 outcome_put _ lots stamp resting queues = Unit {0}
 
+-- a claim of what is cancelled because put refused it (rules 5, 8, 11)
 abbrev pub IfNoPlace : Cause → Type 0 → Type 0
 IfNoPlace NotPut claim = claim
 IfNoPlace _ claim = Unit {0}
