@@ -37,8 +37,9 @@ pub record AccountedBy (l : List Line) (stamp : ℕ) (sum : Measure → ℕ) : T
 abbrev pub Accounted : MatchState → Type 0
 Accounted f = AccountedBy (tape f) f.session.next_stamp (λ g. everywhere g f)
 
-pub by_number : (m n : ℕ) (P : Bool → Type 0) → (m ≡ n → P true) → ((m ≡ n → ⊥) → P false) → P (eqb m n)
-by_number m n P same apart = go (eqb m n) refl
+-- two numbers are equal or not
+eqb_cases : (m n : ℕ) (P : Bool → Type 0) → (m ≡ n → P true) → ((m ≡ n → ⊥) → P false) → P (eqb m n)
+eqb_cases m n P same apart = go (eqb m n) refl
   where
     go : (b : Bool) → eqb m n ≡ b → P b
     go true e = same (eqb-true m n e)
@@ -47,7 +48,7 @@ by_number m n P same apart = go (eqb m n) refl
 -- a number that is not drawn yet is of no order
 pub unused_nowhere : (f : MatchState) → Accounted f → (n : ℕ) → f.session.next_stamp ≤ n → everywhere (with_number n) f ≡ 0
 unused_nowhere f k n l =
-    let a = over_le f.queues f.incoming (with_number n) (lots_of n) (λ p o. by_number o.number n (λ b. cond b 1 0 ≤ cond b o.open_lots 0) (λ _. omega arith) (λ _. omega arith)) in
+    let a = over_le f.queues f.incoming (with_number n) (lots_of n) (λ p o. eqb_cases o.number n (λ b. cond b 1 0 ≤ cond b o.open_lots 0) (λ _. omega arith) (λ _. omega arith)) in
     omega (arith, k.balanced n, k.unused n l)
 
 -- the number of an order is below the next stamp
@@ -56,27 +57,30 @@ used_below f k n h = ⊎_elim (λ (l : n < f.session.next_stamp). l) (λ (l : f.
 
 -- open lots after a trade
 
+counting_sum : (m n a b c : ℕ) → a + b ≡ c → counting n m a + counting n m b ≡ counting n m c
+counting_sum m n a b c e = eqb_cases m n (λ t. cond t a 0 + cond t b 0 ≡ cond t c 0) (λ _. omega arith) (λ _. omega arith)
+
 pub incoming_left_open : (n lots : ℕ) (o : Order) → lots ≤ o.open_lots → of_incoming (open_of n) (incoming_left lots o) + counting n o.number lots ≡ open_of n o
 incoming_left_open n lots o h = incoming_left_cases lots o (λ m. of_incoming (open_of n) m + counting n o.number lots ≡ open_of n o) h
-    (λ e. by_number o.number n (λ b. 0 + cond b lots 0 ≡ cond b o.open_lots 0) (λ _. omega arith) (λ _. omega arith))
+    (λ e. let z : counting n o.number o.open_lots ≡ counting n o.number lots = ap (counting n o.number) e in omega arith)
     (λ more. let k : (order_refilled o.turn lots o).open_lots ≡ o.open_lots - lots = ap (λ (r : OrderRow). r.open_lots) (refilled_row o.turn lots o more) in
-    by_number o.number n (λ b. cond b (order_refilled o.turn lots o).open_lots 0 + cond b lots 0 ≡ cond b o.open_lots 0) (λ _. omega arith) (λ _. omega arith))
+    counting_sum o.number n (order_refilled o.turn lots o).open_lots lots o.open_lots (omega arith))
 
 pub outcome_open : (n lots stamp : ℕ) (r : Order) → lots ≤ r.shown → of_outcome (open_of n) (outcome lots r) lots stamp r + counting n r.number lots ≡ open_of n r
 outcome_open n lots stamp r h = outcome_cases lots r (λ k. of_outcome (open_of n) k lots stamp r + counting n r.number lots ≡ open_of n r) h
-    (λ e. by_number r.number n (λ b. 0 + cond b lots 0 ≡ cond b r.open_lots 0) (λ _. omega arith) (λ _. omega arith))
+    (λ e. let z : counting n r.number r.open_lots ≡ counting n r.number lots = ap (counting n r.number) e in omega arith)
     (λ _ more. let k : (order_refilled stamp lots r).open_lots ≡ r.open_lots - lots = ap (λ (r : OrderRow). r.open_lots) (refilled_row stamp lots r more) in
-    by_number r.number n (λ b. cond b (order_refilled stamp lots r).open_lots 0 + cond b lots 0 ≡ cond b r.open_lots 0) (λ _. omega arith) (λ _. omega arith))
+    counting_sum r.number n (order_refilled stamp lots r).open_lots lots r.open_lots (omega arith))
     (λ less. let k : (order_reduced lots r).open_lots ≡ r.open_lots - lots = ap (λ (r : OrderRow). r.open_lots) (reduced_row lots r less) in
-    by_number r.number n (λ b. cond b (order_reduced lots r).open_lots 0 + cond b lots 0 ≡ cond b r.open_lots 0) (λ _. omega arith) (λ _. omega arith))
+    counting_sum r.number n (order_reduced lots r).open_lots lots r.open_lots (omega arith))
 
 -- a new number, and a new quantity under an old one
 
 new_number : (m n lots old : ℕ) → (m ≡ n → old ≡ 0) → cond (eqb m n) lots old ≡ old + counting n m lots
-new_number m n lots old h = by_number m n (λ b. cond b lots old ≡ old + cond b lots 0) (λ e. let z = h e in omega arith) (λ _. omega arith)
+new_number m n lots old h = eqb_cases m n (λ b. cond b lots old ≡ old + cond b lots 0) (λ e. let z = h e in omega arith) (λ _. omega arith)
 
 old_number : (m n lots left new was old : ℕ) → (m ≡ n → old ≡ was) → lots + left ≡ new + was → cond (eqb m n) lots old + counting n m left ≡ old + counting n m new
-old_number m n lots left new was old h k = by_number m n (λ b. cond b lots old + cond b left 0 ≡ old + cond b new 0) (λ e. let z = h e in omega arith) (λ _. omega arith)
+old_number m n lots left new was old h k = eqb_cases m n (λ b. cond b lots old + cond b left 0 ≡ old + cond b new 0) (λ e. let z = h e in omega arith) (λ _. omega arith)
 
 new_order_counted : (o : Order) (f : MatchState) (n : ℕ) → MayEnter o f → Accounted f →
     cond (eqb o.number n) o.quantity (quantity_of n (tape f)) ≡ quantity_of n (tape f) + open_of n o
@@ -84,7 +88,7 @@ new_order_counted o f n h k = ap (λ m. cond (eqb o.number n) m (quantity_of n (
     (quantity_of n (tape f)) (λ e. k.unused n (omega (arith, h.new)))
 
 known_at : (l : List Line) (p : Status) (o : Order) → unknown l p o ≡ 0 → quantity_of o.number l ≡ o.quantity
-known_at l p o e = by_number (quantity_of o.number l) o.quantity (λ b. cond {A = ℕ} b 0 1 ≡ 0 → quantity_of o.number l ≡ o.quantity) (λ z _. z) (λ _ z. absurd (omega arith)) e
+known_at l p o e = eqb_cases (quantity_of o.number l) o.quantity (λ b. cond {A = ℕ} b 0 1 ≡ 0 → quantity_of o.number l ≡ o.quantity) (λ z _. z) (λ _ z. absurd (omega arith)) e
 
 at_known : (l : List Line) (p : Status) (o : Order) → quantity_of o.number l ≡ o.quantity → unknown l p o ≡ 0
 at_known l p o e = cond-true (eqb (quantity_of o.number l) o.quantity) 0 1 (eq-eqb (quantity_of o.number l) o.quantity e)
@@ -152,7 +156,7 @@ abbrev NumberStaysUnique : ℕ → Event → MatchState → Type 0
 NumberStaysUnique n e f = (measure_in e f (with_number n) ≤ measure_out e f (with_number n)) ⊎ (everywhere (with_number n) f + measure_in e f (with_number n) ≤ 1)
 
 unique_new : (m n : ℕ) (f : MatchState) → m ≡ f.session.next_stamp → Accounted f → (counting n m 1 ≤ 0) ⊎ (everywhere (with_number n) f + counting n m 1 ≤ 1)
-unique_new m n f h k = by_number m n (λ b. (cond b 1 0 ≤ 0) ⊎ (everywhere (with_number n) f + cond b 1 0 ≤ 1)) (λ e. inr (omega (arith, unused_nowhere f k n (omega arith)))) (λ _. inl (omega arith))
+unique_new m n f h k = eqb_cases m n (λ b. (cond b 1 0 ≤ 0) ⊎ (everywhere (with_number n) f + cond b 1 0 ≤ 1)) (λ e. inr (omega (arith, unused_nowhere f k n (omega arith)))) (λ _. inl (omega arith))
 
 unique_after : (e : Event) (f : MatchState) → MayApply e f → Accounted f → (n : ℕ) → NumberStaysUnique n e f
 unique_after (accepts o) f h k n = unique_new o.number n f h.new k
@@ -169,7 +173,7 @@ unknown_after m lots l p o = cond (eqb (cond (eqb m o.number) lots (quantity_of 
 
 still_known : (m lots : ℕ) (l : List Line) (p : Status) (o : Order) → unknown_after m lots l p o ≤ unknown l p o + with_number m p o
 still_known m lots l p o =
-    by_number m o.number (λ b. cond {A = ℕ} (eqb (cond b lots (quantity_of o.number l)) o.quantity) 0 1 ≤ unknown l p o + with_number m p o)
+    eqb_cases m o.number (λ b. cond {A = ℕ} (eqb (cond b lots (quantity_of o.number l)) o.quantity) 0 1 ≤ unknown l p o + with_number m p o)
     (λ e. let z : with_number m p o ≡ 1 = rw (eq-eqb o.number m (sym e)) refl in omega (arith, at_most (eqb lots o.quantity)))
     (λ _. omega arith)
   where

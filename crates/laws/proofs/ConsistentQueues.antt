@@ -2,6 +2,7 @@
 use Rattle.std.proofs.Common.{◌≡◌, ℕ, ◌<◌, ◌≤◌, false, leb, List, [], ◌∷◌, length, set, Some, sym, refl, ap, subst, arith}
 use Rattle.std.specs.List.{remove, AllByRecursion, slice_get}
 use Rattle.std.proofs.lemmas.Bool.{leb-false, lt-leb}
+use Rattle.std.proofs.lemmas.List.{length-set}
 use Rattle.std.proofs.ByRecursion.{All-weaker}
 use Rattle.std.proofs.lemmas.Bool.Decides.{nat_tests}
 use Rattle.orders.specs.declared.side.Side.{Side}
@@ -21,7 +22,7 @@ use Rattle.books.specs.declared.queue.Queue.TheVariants.{Orders, Stops}
 use Rattle.books.specs.declared.queue.Record.TheVariants.{Standing, Waiting}
 use Rattle.books.specs.Model.{Both, Queues, at, with_at, with_stands, with_waits, rank_of, stop_rank_of, count, capacity, inserted, taken, record_set}
 use Rattle.laws.specs.Quiescence.{Uncrossed}
-use Rattle.laws.proofs.SortedLists.{Sorted, length_removed, all_removed, all_nth, sorted_removed, length_put_in, all_put_in, sorted_put_in, length_rewritten, all_rewritten, sorted_set}
+use Rattle.laws.proofs.SortedLists.{Sorted, length_removed, all_removed, all_nth, sorted_removed, length_put_in, all_put_in, sorted_put_in, all_rewritten, sorted_set}
 
 -- a price is at most the highest that an order may have, so it fits the key of a rank (rules 2)
 abbrev pub InPriceRange : Price → Type 0
@@ -157,7 +158,7 @@ queues_set i x o q e h g =
     let l : List Order = at s q.stands in
     let d = all_nth (OnSide s) l i x e (g.on_side s) in
     let c = all_cross_none s q.stands g.uncrossed in
-    queues_stands s (set l i o) q g (omega (arith, length_rewritten l i o, g.bounded (Orders s))) (sorted_set rank_of l i x o e (same_order_rank x o h) (g.sorted s))
+    queues_stands s (set l i o) q g (omega (arith, length-set l i o, g.bounded (Orders s))) (sorted_set rank_of l i x o e (same_order_rank x o h) (g.sorted s))
     (all_rewritten (OnSide s) l i o (refl, subst InPriceRange (sym h.price) d.1) (g.on_side s))
     (all_rewritten (CrossesNone s q.stands) l i o (same_crosses_none s q.stands x o h.price (all_nth (CrossesNone s q.stands) l i x e c)) c)
 

@@ -101,11 +101,6 @@ total_set f [] i x y e = none_is_some x e
 total_set f (z ∷ l) zero x y e = refl
 total_set f (z ∷ l) (suc i) x y e = let ih = total_set f l i x y e in omega arith
 
-pub length_rewritten : {X : Type 0} (l : List X) (i : ℕ) (y : X) → length (set l i y) ≡ length l
-length_rewritten [] i y = refl
-length_rewritten (z ∷ l) zero y = refl
-length_rewritten (z ∷ l) (suc i) y = ap suc (length_rewritten l i y)
-
 pub all_rewritten : {X : Type 0} (P : X → Type 0) (l : List X) (i : ℕ) (y : X) → P y → AllByRecursion P l → AllByRecursion P (set l i y)
 all_rewritten P [] i y p h = h
 all_rewritten P (z ∷ l) zero y p h = (p, h.1)
