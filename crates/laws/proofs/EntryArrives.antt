@@ -1,28 +1,27 @@
 -- An entry: its first event may apply, and the tally agrees with it.
-use Rattle.std.proofs.Common.{◌≡◌, ℕ, ◌+◌, ◌-◌, ◌≤◌, false, ◌&&◌, ◌||◌, ltb, eqb, List, [], ◌∷◌, Some, None, Option, unwrap_or, sym, refl, ap, ◌∙◌, subst, arith, Ok, Err}
+use Rattle.std.proofs.Common.{◌≡◌, ℕ, ◌+◌, ◌-◌, ◌≤◌, false, ◌&&◌, ◌||◌, ltb, eqb, List, [], ◌∷◌, Some, None, Option, unwrap_or, sym, refl, ap, ◌∙◌, subst, arith, inl, inr}
 use Rattle.std.specs.List.{AllByRecursion, slice_get}
 use Rattle.std.specs.Option.{option_map}
-use Rattle.std.proofs.lemmas.Bool.{cond_both, cond-true, eq-eqb}
+use Rattle.std.proofs.lemmas.Bool.{cond-true, eq-eqb}
 use Rattle.orders.specs.declared.side.Side.{Side}
 use Rattle.orders.specs.declared.price.Price.{Price}
 use Rattle.orders.specs.declared.order.Order.{Order}
-use Rattle.orders.specs.declared.order.Stop.{Stop}
 use Rattle.orders.specs.declared.row.OrderRow.{OrderRow}
 use Rattle.orders.specs.Sides.{opposite, is_immediate}
 use Rattle.books.specs.declared.queue.Record.TheVariants.{Standing, Waiting}
-use Rattle.books.specs.declared.queue.PutError.TheVariants.{Full, Twice}
-use Rattle.books.specs.Model.{Queues, at, standing_order, put_answer, PutAnswer}
+use Rattle.books.specs.Model.{Queues, at, standing_order}
 use Rattle.tapes.specs.declared.cause.Cause.{Cause}
 use Rattle.tapes.specs.declared.cause.Cause.TheVariants.{ShortReach, NotPut}
 use Rattle.matching.specs.declared.new_order.OrderType.{OrderType}
 use Rattle.matching.specs.declared.new_order.OrderType.TheVariants.{Limit, Market, StopLimit}
 use Rattle.matching.specs.declared.new_order.NewOrder.{NewOrder}
 use Rattle.matching.specs.Model.{MatchState, Event, accepts, accepts_stop, accepts_and_cancels, accepts_unmatched, apply}
-use Rattle.matching.specs.Running.{total, first_order}
-use Rattle.matching.specs.Entering.{entered_order, falls_short, accepts_or_cancels, entered_stop, accepts_stop_or_cancels, market_arrival, arrival_as, arrival}
+use Rattle.matching.specs.Running.{total}
+use Rattle.matching.specs.Entering.{entered_order, entered_stop, arrival}
 use Rattle.validation.specs.Combinations.{is_stop}
 use Rattle.laws.specs.Tally.{Status, waits, incoming, Account, Tally, Request, entry, account, adjust, only, numbered, take_off, refilled_if, shown_ran_out, lots_off, price_of_none, limit_as, status_as, entered_account_row, noted}
 use Rattle.laws.specs.Fair.{FairLines}
+use Rattle.laws.proofs.ArrivalCases.{LimitOf, arrival_cases}
 use Rattle.laws.proofs.ConsistentQueues.{InPriceRange, OnSide}
 use Rattle.laws.proofs.SumsOverOrders.{Measure, over_agree, everywhere, with_number}
 use Rattle.laws.proofs.RowsInBounds.{QuantityAllowed, entered_row, order_from_row, entered_shows}
@@ -47,60 +46,40 @@ pub record ValidEntry (a : NewOrder) : Type 0 where
   pub stop : (is_stop a.order_type && (is_immediate a.validity || ltb 0 a.minimum)) ≡ false
   pub least : a.minimum ≤ a.quantity
 
-enters : (a : NewOrder) (price : Price) (f : MatchState) → ValidEntry a → InPriceRange price → f.incoming ≡ None → MayEnter (entered_order a price f.session.next_stamp) f
-enters a price f p l h = record { idle = h; new = refl; turn = refl; whole = refl; price_in_range = l; shows_in_full = entered_shows a price f.session.next_stamp p.allowed }
-
-may_apply_accepts_or_cancels : (a : NewOrder) (o : Order) (f : MatchState) → MayEnter o f → MayApply (accepts_or_cancels a o f.queues) f
-may_apply_accepts_or_cancels a o f h = cond_both (falls_short a o f.queues) (accepts_and_cancels ShortReach o) (accepts o) (λ e. MayApply e f) (λ _. h) (λ _. h)
-
-may_apply_accepts_stop : (m : PutAnswer) (x : Stop) (f : MatchState) → put_answer (Waiting x) f.queues ≡ m → MayEnter x.order f → InPriceRange x.trigger → MayApply (accepts_stop_or_cancels m x) f
-may_apply_accepts_stop (Ok _) x f e h l = record { enters = h; has_place = put_found_place (Waiting x) f.queues e; price_in_range = l }
-may_apply_accepts_stop (Err Full) x f e h l = h
-may_apply_accepts_stop (Err Twice) x f e h l = h
+may_enter : (a : NewOrder) (price : Price) (f : MatchState) → ValidEntry a → InPriceRange price → f.incoming ≡ None → MayEnter (entered_order a price f.session.next_stamp) f
+may_enter a price f p l h = record { idle = h; new = refl; turn = refl; whole = refl; price_in_range = l; shows_in_full = entered_shows a price f.session.next_stamp p.allowed }
 
 first_in_range : (s : Side) (l : List Order) → AllByRecursion (OnSide s) l → (r : Order) → standing_order (option_map Standing (slice_get l 0)) ≡ Some r → InPriceRange r.price
 first_in_range s [] d r e = let z : ◌≡◌ {A = ℕ} 0 1 = cc in absurd (omega arith)
 first_in_range s (x ∷ l) d r e = subst (λ (o : Order). InPriceRange o.price) (let z : x ≡ r = cc in z) d.0.1
 
-may_apply_market : (a : NewOrder) (f : MatchState) (m : Option Order) → first_order (opposite a.side) f.queues ≡ m → ValidEntry a → Quiescent f →
-    MayApply (market_arrival a f.session.next_stamp m f.queues) f
-may_apply_market a f None e p c = (c.idle, refl)
-may_apply_market a f (Some r) e p c = may_apply_accepts_or_cancels a (entered_order a r.price f.session.next_stamp) f
-    (enters a r.price f p (first_in_range (opposite a.side) (at (opposite a.side) f.queues.stands) (c.consistent.queues.on_side (opposite a.side)) r e) c.idle)
-
-may_apply_arrival_as : (k : OrderType) (a : NewOrder) (f : MatchState) → PricesInRange k → ValidEntry a → Quiescent f → MayApply (arrival_as k a f.session.next_stamp f.queues) f
-may_apply_arrival_as (Limit price) a f l p c = may_apply_accepts_or_cancels a (entered_order a price f.session.next_stamp) f (enters a price f p l c.idle)
-may_apply_arrival_as Market a f l p c = may_apply_market a f (first_order (opposite a.side) f.queues) refl p c
-may_apply_arrival_as (StopLimit limit trigger) a f l p c =
-    let x : Stop = entered_stop trigger (entered_order a limit f.session.next_stamp) in
-    may_apply_accepts_stop (put_answer (Waiting x) f.queues) x f refl (enters a limit f p l.0 c.idle) l.1
+limit_in_range : (a : NewOrder) (f : MatchState) (price : Price) → ValidEntry a → Quiescent f → LimitOf a f.queues price → InPriceRange price
+limit_in_range a f price p c (inl e) = subst PricesInRange e p.price_in_range
+limit_in_range a f price p c (inr (e, (r, first, same))) =
+    let s : Side = opposite a.side in
+    subst InPriceRange same (first_in_range s (at s f.queues.stands) (c.consistent.queues.on_side s) r first)
 
 pub may_apply_arrival : (a : NewOrder) (f : MatchState) → ValidEntry a → Quiescent f → MayApply (arrival a f.session.next_stamp f.queues) f
-may_apply_arrival a f p c = may_apply_arrival_as a.order_type a f p.price_in_range p c
+may_apply_arrival a f p c =
+    arrival_cases a f.session.next_stamp f.queues (λ e. MayApply e f) (λ price l _. may_enter a price f p (limit_in_range a f price p c l) c.idle)
+    (λ price l. may_enter a price f p (limit_in_range a f price p c l) c.idle) (c.idle, refl)
+    (λ limit trigger k e. record {
+      enters = may_enter a limit f p (stop_in_range limit trigger k).0 c.idle;
+      has_place = put_found_place (Waiting (entered_stop trigger (entered_order a limit f.session.next_stamp))) f.queues e;
+      price_in_range = (stop_in_range limit trigger k).1;
+    })
+    (λ limit trigger error k e. may_enter a limit f p (stop_in_range limit trigger k).0 c.idle)
+  where
+    stop_in_range : (limit trigger : Price) → a.order_type ≡ StopLimit limit trigger → InPriceRange limit × InPriceRange trigger
+    stop_in_range limit trigger k = subst PricesInRange k p.price_in_range
 
 -- the lines of an entry's first event have no trade that is not fair
 abbrev NoTrade : Request → Tally → Event → Type 0
 NoTrade q t e = FairLines q (event_lines e) t
 
-no_trade_accepts_or_cancels : (a : NewOrder) (o : Order) (q : Queues) (t : Tally) → NoTrade (entry a) t (accepts_or_cancels a o q)
-no_trade_accepts_or_cancels a o q t = cond_both (falls_short a o q) (accepts_and_cancels ShortReach o) (accepts o) (NoTrade (entry a) t) (λ _. ((tt, tt), tt)) (λ _. (tt, tt))
-
-no_trade_arrival_as : (k : OrderType) (a : NewOrder) (stamp : ℕ) (q : Queues) (t : Tally) → NoTrade (entry a) t (arrival_as k a stamp q)
-no_trade_arrival_as (Limit price) a stamp q t = no_trade_accepts_or_cancels a (entered_order a price stamp) q t
-no_trade_arrival_as Market a stamp q t = go (first_order (opposite a.side) q)
-  where
-    go : (m : Option Order) → NoTrade (entry a) t (market_arrival a stamp m q)
-    go None = ((tt, tt), tt)
-    go (Some r) = no_trade_accepts_or_cancels a (entered_order a r.price stamp) q t
-no_trade_arrival_as (StopLimit limit trigger) a stamp q t = go (put_answer (Waiting (entered_stop trigger (entered_order a limit stamp))) q)
-  where
-    go : (m : PutAnswer) → NoTrade (entry a) t (accepts_stop_or_cancels m (entered_stop trigger (entered_order a limit stamp)))
-    go (Ok _) = (tt, tt)
-    go (Err Full) = ((tt, tt), tt)
-    go (Err Twice) = ((tt, tt), tt)
-
 pub no_trade_arrival : (a : NewOrder) (stamp : ℕ) (q : Queues) (t : Tally) → NoTrade (entry a) t (arrival a stamp q)
-no_trade_arrival a stamp q t = no_trade_arrival_as a.order_type a stamp q t
+no_trade_arrival a stamp q t =
+    arrival_cases a stamp q (NoTrade (entry a) t) (λ _ _ _. (tt, tt)) (λ _ _. ((tt, tt), tt)) ((tt, tt), tt) (λ _ _ _ _. (tt, tt)) (λ _ _ _ _ _. ((tt, tt), tt))
 
 -- the tally has the entry's order
 
@@ -169,46 +148,43 @@ module _ (a : NewOrder) (f : MatchState) (t : Tally) (pr : ValidEntry a) (c : Qu
         turns = omega (arith, m.turns, stamp_is e f room);
       }
 
-  tally_agrees_accepts_or_cancels : (price : Price) → status_as a.order_type ≡ incoming → limit_as a.order_type a.side t.accounts ≡ price →
-      AgreesAfter (accepts_or_cancels a (entered_order a price f.session.next_stamp) f.queues)
-  tally_agrees_accepts_or_cancels price k l =
-      let o : Order = entered_order a price f.session.next_stamp in
-      cond_both (falls_short a o f.queues) (accepts_and_cancels ShortReach o) (accepts o) AgreesAfter (λ _. tally_agrees_accepts_and_cancels ShortReach price) (λ _. tally_agrees_accepts price k l)
-
-  tally_agrees_market : a.order_type ≡ Market → (l : List Order) → at (opposite a.side) f.queues.stands ≡ l →
-      AgreesAfter (market_arrival a f.session.next_stamp (standing_order (option_map Standing (slice_get l 0))) f.queues)
-  tally_agrees_market k [] e fit room =
+  tally_agrees_unmatched : AgreesAfter (accepts_unmatched f.session.next_stamp a.quantity)
+  tally_agrees_unmatched fit room =
       let ev : Event = accepts_unmatched f.session.next_stamp a.quantity in
       record {
         sums = account_passes ev (status_as a.order_type) (entered_account_row a (limit_as a.order_type a.side t.accounts) f.session.next_stamp t.turn) f.session.next_stamp
             a.quantity (t.turn + 1) fit (λ g. refl) (λ g. refl) refl refl refl;
         turns = omega (arith, m.turns, stamp_is ev f room);
       }
-  tally_agrees_market k (r ∷ rest) e fit room =
-      tally_agrees_accepts_or_cancels r.price (ap status_as k)
-      (ap (λ (z : OrderType). limit_as z a.side t.accounts) k ∙ ap (λ (z : Option Price). unwrap_or z price_of_none) (first_price_is (opposite a.side) f t c.consistent.queues m ∙ ap price_of_first e)) fit room
 
-  tally_agrees_arrival_as : (k : OrderType) → a.order_type ≡ k → AgreesAfter (arrival_as k a f.session.next_stamp f.queues)
-  tally_agrees_arrival_as (Limit price) e = tally_agrees_accepts_or_cancels price (ap status_as e) (ap (λ (z : OrderType). limit_as z a.side t.accounts) e)
-  tally_agrees_arrival_as Market e = tally_agrees_market e (at (opposite a.side) f.queues.stands) refl
-  tally_agrees_arrival_as (StopLimit limit trigger) e = go (put_answer (Waiting x) f.queues)
+  tally_agrees_accepts_stop : (limit trigger : Price) → a.order_type ≡ StopLimit limit trigger →
+      AgreesAfter (accepts_stop (entered_stop trigger (entered_order a limit f.session.next_stamp)))
+  tally_agrees_accepts_stop limit trigger k fit room =
+      let o : Order = entered_order a limit f.session.next_stamp in
+      let ev : Event = accepts_stop (entered_stop trigger o) in
+      record {
+        sums = subst (λ (z : OrderType). (g : RowMeasure) → total (on_account g) (account (status_as z)
+            (entered_account_row a (limit_as z a.side t.accounts) o.number t.turn) ∷ t.accounts) ≡ everywhere (of_tally_row g) (apply ev f)) (sym k)
+            (account_joins ev waits o (entered_account_row a limit o.number t.turn) fit (λ g. refl) (λ g. refl) (entered_tally_row a limit waits f.session.next_stamp pr (λ _. refl) t.turn m.turns));
+        turns = omega (arith, m.turns, stamp_is ev f room);
+      }
+
+  -- the tally's limit is the entry's
+  tally_limit : (price : Price) → LimitOf a f.queues price → (status_as a.order_type ≡ incoming) × (limit_as a.order_type a.side t.accounts ≡ price)
+  tally_limit price (inl e) = (ap status_as e, ap (λ (z : OrderType). limit_as z a.side t.accounts) e)
+  tally_limit price (inr (e, (r, first, same))) = (
+    ap status_as e,
+    ap (λ (z : OrderType). limit_as z a.side t.accounts) e
+        ∙ ap (λ (z : Option Price). unwrap_or z price_of_none) (first_price_is (opposite a.side) f t c.consistent.queues m ∙ of_first (at (opposite a.side) f.queues.stands) first) ∙ same,
+  )
     where
-      x : Stop
-      x = entered_stop trigger (entered_order a limit f.session.next_stamp)
-
-      go : (z : PutAnswer) → AgreesAfter (accepts_stop_or_cancels z (entered_stop trigger (entered_order a limit f.session.next_stamp)))
-      go (Err Full) = tally_agrees_accepts_and_cancels NotPut limit
-      go (Err Twice) = tally_agrees_accepts_and_cancels NotPut limit
-      go (Ok _) = λ fit room.
-          (let o : Order = entered_order a limit f.session.next_stamp in
-          let ev : Event = accepts_stop (entered_stop trigger o) in
-          record {
-            sums = subst (λ (z : OrderType). (g : RowMeasure) → total (on_account g) (account (status_as z)
-                (entered_account_row a (limit_as z a.side t.accounts) o.number t.turn) ∷ t.accounts) ≡ everywhere (of_tally_row g) (apply ev f)) (sym e)
-                (account_joins ev waits o (entered_account_row a limit o.number t.turn) fit (λ g. refl) (λ g. refl) (entered_tally_row a limit waits f.session.next_stamp pr (λ _. refl) t.turn m.turns));
-            turns = omega (arith, m.turns, stamp_is ev f room);
-          })
+      of_first : (l : List Order) → standing_order (option_map Standing (slice_get l 0)) ≡ Some r → price_of_first l ≡ Some r.price
+      of_first [] z = let u : ◌≡◌ {A = ℕ} 0 1 = cc in absurd (omega arith)
+      of_first (x ∷ l) z = ap (λ (o : Order). Some o.price) (let u : x ≡ r = cc in u)
 
   pub tally_agrees_arrival : RoomFor (arrival a f.session.next_stamp f.queues) f →
       TallyAgrees (noted (entry a) (event_lines (arrival a f.session.next_stamp f.queues)) t) (apply (arrival a f.session.next_stamp f.queues) f)
-  tally_agrees_arrival room = tally_agrees_arrival_as a.order_type refl (may_apply_arrival a f pr c) room
+  tally_agrees_arrival room =
+      arrival_cases a f.session.next_stamp f.queues AgreesAfter (λ price l _. let k = tally_limit price l in tally_agrees_accepts price k.0 k.1)
+      (λ price _. tally_agrees_accepts_and_cancels ShortReach price) tally_agrees_unmatched (λ limit trigger k _. tally_agrees_accepts_stop limit trigger k)
+      (λ limit _ _ _ _. tally_agrees_accepts_and_cancels NotPut limit) (may_apply_arrival a f pr c) room

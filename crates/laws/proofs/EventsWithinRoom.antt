@@ -1,30 +1,30 @@
 -- Each event is within room: it has its lines and stamps in full, the book takes what it puts, and its orders keep their bounds.
-use Rattle.std.proofs.Common.{◌≡◌, ℕ, ◌-◌, ◌≤◌, Bool, true, false, cond, ltb, Some, None, Option, sym, refl, ap, ◌∙◌, subst, arith, Ok, Err}
+use Rattle.std.proofs.Common.{◌≡◌, ℕ, ◌-◌, ◌≤◌, Bool, true, false, cond, ltb, Some, sym, refl, ap, ◌∙◌, subst, arith, Ok, Err}
 use Rattle.std.specs.List.{slice_get}
-use Rattle.std.proofs.lemmas.Bool.{cond_both}
 use Rattle.orders.specs.declared.side.Side.{Side}
+use Rattle.orders.specs.declared.price.Price.{Price}
 use Rattle.orders.specs.declared.order.Order.{Order}
-use Rattle.orders.specs.Sides.{opposite}
 use Rattle.orders.specs.Lots.{order_refilled, with_lots, showing}
 use Rattle.orders.proofs.RowRoundTrip.{in_bounds_from}
 use Rattle.books.specs.declared.queue.Queue.TheVariants.{Orders}
 use Rattle.books.specs.declared.queue.Record.{Record}
 use Rattle.books.specs.declared.queue.Record.TheVariants.{Standing, Waiting}
+use Rattle.books.specs.declared.queue.PutError.{PutError}
 use Rattle.books.specs.declared.queue.PutError.TheVariants.{Full, Twice}
 use Rattle.books.specs.Model.{Queues, at, count, capacity, queue_of, number_of, put_answer, taken, PutAnswer}
 use Rattle.tapes.specs.declared.cause.Cause.{Cause}
-use Rattle.tapes.specs.declared.cause.Cause.TheVariants.{ShortReach, NotPut}
-use Rattle.matching.specs.declared.new_order.OrderType.{OrderType}
-use Rattle.matching.specs.declared.new_order.OrderType.TheVariants.{Limit, Market, StopLimit}
+use Rattle.tapes.specs.declared.cause.Cause.TheVariants.{NotPut}
+use Rattle.matching.specs.declared.new_order.OrderType.TheVariants.{StopLimit}
 use Rattle.matching.specs.declared.new_order.NewOrder.{NewOrder}
-use Rattle.matching.specs.Model.{MatchState, Event, accepts, accepts_and_cancels, cancels_incoming, trades, rests, triggers, RestingOutcome, refilled, outcome, trade_lots}
-use Rattle.matching.specs.Running.{first_order, run_to_rest}
-use Rattle.matching.specs.Entering.{entered_order, falls_short, accepts_or_cancels, entered_stop, accepts_stop_or_cancels, market_arrival, arrival_as, arrival}
+use Rattle.matching.specs.Model.{MatchState, Event, accepts_and_cancels, cancels_incoming, trades, rests, triggers, RestingOutcome, refilled, outcome, trade_lots}
+use Rattle.matching.specs.Running.{run_to_rest}
+use Rattle.matching.specs.Entering.{entered_order, entered_stop, arrival}
 use Rattle.matching.proofs.OutcomeCases.{outcome_cases}
 use Rattle.matching.proofs.PartsFall.{reduced_fits, refilled_fits}
 use Rattle.matching.proofs.WeightFalls.{IfRefused, IsNext}
 use Rattle.laws.specs.Tally.{incoming}
 use Rattle.laws.specs.WithinRoom.{outcome_put, PutDone, outcome_in_bounds, EventInBounds, WithinRoom, Trace, ended, then}
+use Rattle.laws.proofs.ArrivalCases.{arrival_cases}
 use Rattle.laws.proofs.ConsistentQueues.{ConsistentQueues}
 use Rattle.laws.proofs.SumsOverOrders.{queued, of_incoming, with_number, put_new}
 use Rattle.laws.proofs.EventsApply.{MayTrade, NumbersUnique, counts_itself, put_back_done, rest_side}
@@ -104,23 +104,11 @@ run_to_rest_trace f s h = runs_to_trace (run_to_rest_runs f s h) s
 
 -- the book takes what an entry's first event puts
 
-put_done_accepts_or_cancels : (a : NewOrder) (o : Order) (f : MatchState) → PutDone (accepts_or_cancels a o f.queues) f
-put_done_accepts_or_cancels a o f = cond_both (falls_short a o f.queues) (accepts_and_cancels ShortReach o) (accepts o) (λ e. PutDone e f) (λ _. tt) (λ _. tt)
-
-put_done_arrival_as : (k : OrderType) (a : NewOrder) (f : MatchState) → Quiescent f → PutDone (arrival_as k a f.session.next_stamp f.queues) f
-put_done_arrival_as (Limit price) a f c = put_done_accepts_or_cancels a (entered_order a price f.session.next_stamp) f
-put_done_arrival_as Market a f c = go (first_order (opposite a.side) f.queues)
-  where
-    go : (m : Option Order) → PutDone (market_arrival a f.session.next_stamp m f.queues) f
-    go None = tt
-    go (Some r) = put_done_accepts_or_cancels a (entered_order a r.price f.session.next_stamp) f
-put_done_arrival_as (StopLimit limit trigger) a f c = go (put_answer (Waiting (entered_stop trigger (entered_order a limit f.session.next_stamp))) f.queues) refl
-  where
-    go : (p : PutAnswer) → put_answer (Waiting (entered_stop trigger (entered_order a limit f.session.next_stamp))) f.queues ≡ p →
-        PutDone (accepts_stop_or_cancels p (entered_stop trigger (entered_order a limit f.session.next_stamp))) f
-    go (Ok _) e = e
-    go (Err Full) e = (entered_stop trigger (entered_order a limit f.session.next_stamp), refl, e)
-    go (Err Twice) e = absurd (never_twice (Waiting (entered_stop trigger (entered_order a limit f.session.next_stamp))) f.queues (omega (arith, unused_nowhere f c.consistent.accounted f.session.next_stamp (omega arith))) e)
-
 pub put_done_arrival : (a : NewOrder) (f : MatchState) → Quiescent f → PutDone (arrival a f.session.next_stamp f.queues) f
-put_done_arrival a f c = put_done_arrival_as a.order_type a f c
+put_done_arrival a f c = arrival_cases a f.session.next_stamp f.queues (λ e. PutDone e f) (λ _ _ _. tt) (λ _ _. tt) tt (λ limit trigger k e. e) refused
+  where
+    refused : (limit trigger : Price) (error : PutError) → a.order_type ≡ StopLimit limit trigger →
+        put_answer (Waiting (entered_stop trigger (entered_order a limit f.session.next_stamp))) f.queues ≡ Err error →
+        PutDone (accepts_and_cancels NotPut (entered_order a limit f.session.next_stamp)) f
+    refused limit trigger Full k e = (entered_stop trigger (entered_order a limit f.session.next_stamp), refl, e)
+    refused limit trigger Twice k e = absurd (never_twice (Waiting (entered_stop trigger (entered_order a limit f.session.next_stamp))) f.queues (omega (arith, unused_nowhere f c.consistent.accounted f.session.next_stamp (omega arith))) e)

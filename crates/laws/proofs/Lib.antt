@@ -1,3 +1,4 @@
+pub mod ArrivalCases
 pub mod SortedLists
 pub mod ConsistentQueues
 pub mod SumsOverOrders

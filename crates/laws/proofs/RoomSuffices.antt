@@ -1,27 +1,21 @@
 -- Twenty free lines and twenty undrawn stamps for each record and one more suffice (rules 7).
-use Rattle.std.proofs.Common.{◌≡◌, ℕ, suc, ◌+◌, ◌*◌, ◌≤◌, List, [], ◌∷◌, length, Some, None, Option, ap, ◌∙◌, arith, length-append, Ok, Err}
+use Rattle.std.proofs.Common.{◌≡◌, ℕ, suc, ◌+◌, ◌*◌, ◌≤◌, List, [], ◌∷◌, length, Some, ap, ◌∙◌, arith, length-append}
 use Rattle.std.specs.List.{slice_get}
-use Rattle.std.proofs.lemmas.Bool.{cond_both}
 use Rattle.orders.specs.declared.side.Side.{Side}
 use Rattle.orders.specs.declared.side.Side.TheVariants.{Buy, Sell}
 use Rattle.orders.specs.declared.order.Order.{Order}
 use Rattle.orders.specs.declared.order.Stop.{Stop}
-use Rattle.orders.specs.Sides.{opposite}
 use Rattle.books.specs.RankedLists.{put_by_rank}
 use Rattle.books.specs.declared.queue.Queue.TheVariants.{Orders}
-use Rattle.books.specs.declared.queue.Record.TheVariants.{Waiting}
-use Rattle.books.specs.declared.queue.PutError.TheVariants.{Full, Twice}
-use Rattle.books.specs.Model.{Queues, at, with_waits, stop_rank_of, taken, put_answer, PutAnswer}
-use Rattle.tapes.specs.declared.cause.Cause.TheVariants.{ShortReach}
+use Rattle.books.specs.Model.{Queues, at, with_waits, stop_rank_of, taken}
 use Rattle.matching.specs.declared.session.TheConstants.{STAMPS_END}
-use Rattle.matching.specs.declared.new_order.OrderType.{OrderType}
-use Rattle.matching.specs.declared.new_order.OrderType.TheVariants.{Limit, Market, StopLimit}
 use Rattle.matching.specs.declared.new_order.NewOrder.{NewOrder}
 use Rattle.matching.specs.Model.{MatchState, Event, accepts, accepts_stop, accepts_and_cancels, accepts_unmatched, requeues, apply}
-use Rattle.matching.specs.Running.{total, parts, queues_weight, weight, first_order}
-use Rattle.matching.specs.Entering.{entered_order, falls_short, accepts_or_cancels, entered_stop, accepts_stop_or_cancels, market_arrival, arrival_as, arrival}
+use Rattle.matching.specs.Running.{total, parts, queues_weight, weight}
+use Rattle.matching.specs.Entering.{arrival}
 use Rattle.matching.proofs.PartsFall.{parts_most}
 use Rattle.venue.specs.Rooms.{records, needed}
+use Rattle.laws.proofs.ArrivalCases.{arrival_cases}
 use Rattle.laws.proofs.SortedLists.{total_removed, length_put_in}
 use Rattle.laws.proofs.EventsApply.{MayApply}
 use Rattle.laws.specs.WithinRoom.{event_lines, event_stamps}
@@ -95,22 +89,5 @@ rest_has_room_at_first e f b h s =
 
 -- an entry begins with one of these events
 
-begins_accepts_or_cancels : (a : NewOrder) (o : Order) (q : Queues) → BeginsStep (accepts_or_cancels a o q)
-begins_accepts_or_cancels a o q = cond_both (falls_short a o q) (accepts_and_cancels ShortReach o) (accepts o) BeginsStep (λ _. tt) (λ _. tt)
-
-begins_arrival_as : (k : OrderType) (a : NewOrder) (stamp : ℕ) (q : Queues) → BeginsStep (arrival_as k a stamp q)
-begins_arrival_as (Limit price) a stamp q = begins_accepts_or_cancels a (entered_order a price stamp) q
-begins_arrival_as Market a stamp q = go (first_order (opposite a.side) q)
-  where
-    go : (m : Option Order) → BeginsStep (market_arrival a stamp m q)
-    go None = tt
-    go (Some r) = begins_accepts_or_cancels a (entered_order a r.price stamp) q
-begins_arrival_as (StopLimit limit trigger) a stamp q = go (put_answer (Waiting (entered_stop trigger (entered_order a limit stamp))) q)
-  where
-    go : (m : PutAnswer) → BeginsStep (accepts_stop_or_cancels m (entered_stop trigger (entered_order a limit stamp)))
-    go (Ok _) = tt
-    go (Err Full) = tt
-    go (Err Twice) = tt
-
 pub begins_arrival : (a : NewOrder) (stamp : ℕ) (q : Queues) → BeginsStep (arrival a stamp q)
-begins_arrival a stamp q = begins_arrival_as a.order_type a stamp q
+begins_arrival a stamp q = arrival_cases a stamp q BeginsStep (λ _ _ _. tt) (λ _ _. tt) tt (λ _ _ _ _. tt) (λ _ _ _ _ _. tt)

@@ -1,7 +1,7 @@
 -- An entry that wants all trades whole or not at all, one with a minimum at least that or not at all; and what reach means, in every state
 -- of a run.
-use Rattle.std.proofs.Common.{◌≡◌, ℕ, ◌+◌, ◌≤◌, Bool, true, false, cond, ◌&&◌, ◌||◌, eqb, ltb, ◌++◌, Some, None, Ok, Err, Option, Result, sym, refl, ap, ◌∙◌, subst, inl, inr, arith}
-use Rattle.std.proofs.lemmas.Bool.{cond_both, cond-true, both_ways, or_parts, ltb-false, eq-eqb}
+use Rattle.std.proofs.Common.{◌≡◌, ℕ, ◌+◌, ◌≤◌, Bool, true, false, cond, ◌&&◌, ◌||◌, eqb, ltb, ◌++◌, Ok, Err, Result, sym, refl, ap, ◌∙◌, subst, inl, inr, arith}
+use Rattle.std.proofs.lemmas.Bool.{cond-true, both_ways, or_parts, ltb-false, eq-eqb}
 use Rattle.orders.specs.declared.side.Validity.{Validity}
 use Rattle.orders.specs.declared.side.Validity.TheVariants.{Day as ForDay, Gtc, Ioc, Fok}
 use Rattle.orders.specs.declared.price.Price.{Price}
@@ -10,19 +10,17 @@ use Rattle.orders.specs.declared.row.OrderRow.{OrderRow}
 use Rattle.orders.specs.Sides.{opposite, is_immediate}
 use Rattle.books.specs.Model.{Queues, at}
 use Rattle.tapes.specs.declared.cause.Cause.{Cause}
-use Rattle.tapes.specs.declared.cause.Cause.TheVariants.{ShortReach}
+use Rattle.tapes.specs.declared.cause.Cause.TheVariants.{ShortReach, NotPut}
 use Rattle.tapes.specs.Logs.{Log}
 use Rattle.forms.specs.declared.form.EntryForm.{EntryForm}
 use Rattle.forms.specs.declared.form.Form.TheVariants.{Entry}
 use Rattle.forms.specs.declared.refusal.Refusal.{Refusal}
 use Rattle.forms.specs.declared.refusal.Refusal.TheVariants.{WrongDay}
-use Rattle.matching.specs.declared.new_order.OrderType.{OrderType}
-use Rattle.matching.specs.declared.new_order.OrderType.TheVariants.{Limit, Market, StopLimit}
 use Rattle.matching.specs.declared.new_order.NewOrder.{NewOrder}
 use Rattle.matching.specs.Model.{MatchState, Event, accepts, accepts_and_cancels, accepts_unmatched, apply}
-use Rattle.matching.specs.Running.{total, first_order, run_to_rest}
+use Rattle.matching.specs.Running.{total, run_to_rest}
 use Rattle.matching.specs.Reach.{reach}
-use Rattle.matching.specs.Entering.{entered_order, all_or_none, falls_short, accepts_or_cancels, market_arrival, arrival_as, enter}
+use Rattle.matching.specs.Entering.{entered_order, all_or_none, falls_short, enter}
 use Rattle.forms.specs.Results.{and_then}
 use Rattle.validation.specs.Combinations.{is_stop}
 use Rattle.validation.specs.Entries.{validate_entry}
@@ -34,6 +32,7 @@ use Rattle.laws.specs.Accounts.{quantity_of, traded_lots, cancelled_lots}
 use Rattle.laws.specs.Runs.{session_of, after}
 use Rattle.laws.specs.WithinRoom.{state_between_steps, event_lines}
 use Rattle.laws.specs.Reaching.{ReachMeans, Filled, AlwaysFilled}
+use Rattle.laws.proofs.ArrivalCases.{arrival_cases}
 use Rattle.laws.proofs.RowsInBounds.{order_from_row}
 use Rattle.laws.proofs.EventsApply.{MayApply}
 use Rattle.laws.proofs.LinesAndStamps.{tape, tape_is}
@@ -120,11 +119,6 @@ module _ (a : NewOrder) (f : MatchState) (p : ValidEntry a) (s : RoomForStep f) 
       whole_of {A} {R} {Q} true e k next = next (ltb-false R Q k)
       whole_of {A} {R} {Q} false e k next = absurd (both_ways false refl e)
 
-  filled_accepts_or_cancels : (price : Price) → FilledAfter (accepts_or_cancels a (entered_order a price f.session.next_stamp) f.queues)
-  filled_accepts_or_cancels price =
-      let o : Order = entered_order a price f.session.next_stamp in
-      cond_both (falls_short a o f.queues) (accepts_and_cancels ShortReach o) (accepts o) FilledAfter (λ _. filled_accepts_and_cancels ShortReach price) (λ e. filled_accepts price e)
-
   filled_stop : is_stop a.order_type ≡ true → (lots : ℕ) → Filled a lots
   filled_stop e lots =
       let k = plain (is_stop a.order_type) (is_immediate a.validity) (ltb 0 a.minimum) e p.stop in
@@ -134,17 +128,11 @@ module _ (a : NewOrder) (f : MatchState) (p : ValidEntry a) (s : RoomForStep f) 
       plain true y z e h = or_parts y z h
       plain false y z e h = absurd (both_ways false refl e)
 
-  filled_arrival_as : (k : OrderType) → a.order_type ≡ k → FilledAfter (arrival_as k a f.session.next_stamp f.queues)
-  filled_arrival_as (Limit price) e = filled_accepts_or_cancels price
-  filled_arrival_as Market e = go (first_order (opposite a.side) f.queues)
-    where
-      go : (m : Option Order) → FilledAfter (market_arrival a f.session.next_stamp m f.queues)
-      go None = filled_accepts_unmatched
-      go (Some r) = filled_accepts_or_cancels r.price
-  filled_arrival_as (StopLimit limit trigger) e = λ _ _. filled_stop (ap is_stop e) _
-
   pub filled_enter : Filled a (traded_on f.session.next_stamp (enter a f))
-  filled_enter = filled_arrival_as a.order_type refl (begins_arrival a f.session.next_stamp f.queues) (may_apply_arrival a f p c)
+  filled_enter =
+      arrival_cases a f.session.next_stamp f.queues FilledAfter (λ price _ e. filled_accepts price e) (λ price _. filled_accepts_and_cancels ShortReach price) filled_accepts_unmatched
+      (λ limit trigger k _ _ _. filled_stop (ap is_stop k) _) (λ limit _ _ _ _. filled_accepts_and_cancels NotPut limit)
+      (begins_arrival a f.session.next_stamp f.queues) (may_apply_arrival a f p c)
 
 -- in every state of a run
 
