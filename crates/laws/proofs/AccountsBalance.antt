@@ -52,7 +52,7 @@ unused_nowhere f k n l =
     omega (arith, k.balanced n, k.unused n l)
 
 -- the number of an order is below the next stamp
-pub used_below : (f : MatchState) → Accounted f → (n : ℕ) → 1 ≤ everywhere (with_number n) f → n < f.session.next_stamp
+used_below : (f : MatchState) → Accounted f → (n : ℕ) → 1 ≤ everywhere (with_number n) f → n < f.session.next_stamp
 used_below f k n h = ⊎_elim (λ (l : n < f.session.next_stamp). l) (λ (l : f.session.next_stamp ≤ n). absurd (omega (arith, unused_nowhere f k n l))) (cases_lt n f.session.next_stamp)
 
 -- open lots after a trade
@@ -60,13 +60,13 @@ used_below f k n h = ⊎_elim (λ (l : n < f.session.next_stamp). l) (λ (l : f.
 counting_sum : (m n a b c : ℕ) → a + b ≡ c → counting n m a + counting n m b ≡ counting n m c
 counting_sum m n a b c e = eqb_cases m n (λ t. cond t a 0 + cond t b 0 ≡ cond t c 0) (λ _. omega arith) (λ _. omega arith)
 
-pub incoming_left_open : (n lots : ℕ) (o : Order) → lots ≤ o.open_lots → of_incoming (open_of n) (incoming_left lots o) + counting n o.number lots ≡ open_of n o
+incoming_left_open : (n lots : ℕ) (o : Order) → lots ≤ o.open_lots → of_incoming (open_of n) (incoming_left lots o) + counting n o.number lots ≡ open_of n o
 incoming_left_open n lots o h = incoming_left_cases lots o (λ m. of_incoming (open_of n) m + counting n o.number lots ≡ open_of n o) h
     (λ e. let z : counting n o.number o.open_lots ≡ counting n o.number lots = ap (counting n o.number) e in omega arith)
     (λ more. let k : (order_refilled o.turn lots o).open_lots ≡ o.open_lots - lots = ap (λ (r : OrderRow). r.open_lots) (refilled_row o.turn lots o more) in
     counting_sum o.number n (order_refilled o.turn lots o).open_lots lots o.open_lots (omega arith))
 
-pub outcome_open : (n lots stamp : ℕ) (r : Order) → lots ≤ r.shown → of_outcome (open_of n) (outcome lots r) lots stamp r + counting n r.number lots ≡ open_of n r
+outcome_open : (n lots stamp : ℕ) (r : Order) → lots ≤ r.shown → of_outcome (open_of n) (outcome lots r) lots stamp r + counting n r.number lots ≡ open_of n r
 outcome_open n lots stamp r h = outcome_cases lots r (λ k. of_outcome (open_of n) k lots stamp r + counting n r.number lots ≡ open_of n r) h
     (λ e. let z : counting n r.number r.open_lots ≡ counting n r.number lots = ap (counting n r.number) e in omega arith)
     (λ _ more. let k : (order_refilled stamp lots r).open_lots ≡ r.open_lots - lots = ap (λ (r : OrderRow). r.open_lots) (refilled_row stamp lots r more) in
@@ -98,17 +98,17 @@ module _ (e : Event) (f : MatchState) (fit : MayApply e f) (k : Accounted f) (x 
   was_known : quantity_of x.number (tape f) ≡ x.quantity
   was_known = known_at (tape f) stands x (omega (arith, before_event (unknown (tape f)) e f fit, is (unknown (tape f)), k.quantities_known))
 
-  pub was_used : x.number < f.session.next_stamp
+  was_used : x.number < f.session.next_stamp
   was_used = used_below f k x.number (omega (arith, before_event (with_number x.number) e f fit, is (with_number x.number), counts_itself stands x))
 
   replaced : (o : Order) → ChangesInto x o → (n : ℕ) → cond (eqb o.number n) o.quantity (quantity_of n (tape f)) + open_of n x ≡ quantity_of n (tape f) + open_of n o
   replaced o w n = rw w.number (old_number x.number n o.quantity x.open_lots o.open_lots x.quantity (quantity_of n (tape f))
       (λ z. subst (λ m. quantity_of m (tape f) ≡ x.quantity) z was_known) w.account)
 
-pub amended_out : (i : ℕ) (o : Order) (f : MatchState) (h : MayApply (amends i o) f) (g : Measure) → measure_out (amends i o) f g ≡ g stands h.0.was
+amended_out : (i : ℕ) (o : Order) (f : MatchState) (h : MayApply (amends i o) f) (g : Measure) → measure_out (amends i o) f g ≡ g stands h.0.was
 amended_out i o f h g = ap (of_incoming (g stands)) h.0.there
 
-pub requeued_out : (s : _) (i : ℕ) (o : Order) (f : MatchState) (h : MayApply (requeues s i o) f) (g : Measure) → measure_out (requeues s i o) f g ≡ g stands h.0.was
+requeued_out : (s : _) (i : ℕ) (o : Order) (f : MatchState) (h : MayApply (requeues s i o) f) (g : Measure) → measure_out (requeues s i o) f g ≡ g stands h.0.was
 requeued_out s i o f h g = ap (of_incoming (g stands)) h.0.there
 
 -- what an event writes, takes out and puts in balances, for each number

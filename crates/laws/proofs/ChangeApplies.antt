@@ -40,7 +40,7 @@ pub record KeepsTurn (c : Amendment) (o : Order) : Type 0 where
   pub fewer : new_quantity c o ≤ o.quantity
   pub disclosed : new_disclosed c o ≡ o.disclosed
 
-pub keeps_turn : (c : Amendment) (o : Order) → loses_turn c o ≡ false → KeepsTurn c o
+keeps_turn : (c : Amendment) (o : Order) → loses_turn c o ≡ false → KeepsTurn c o
 keeps_turn c o e =
     let a = or_parts (not (same_price (new_price c o) o.price)) (ltb o.quantity (new_quantity c o) || not (eqb (new_disclosed c o) o.disclosed)) e in
     let b = or_parts (ltb o.quantity (new_quantity c o)) (not (eqb (new_disclosed c o) o.disclosed)) a.1 in

@@ -67,7 +67,7 @@ abbrev pub CrossesNone : Side → Both (List Order) → Order → Type 0
 CrossesNone Buy b o = AllByRecursion (λ (y : Order). level o.price < level y.price) b.sell
 CrossesNone Sell b o = AllByRecursion (λ (x : Order). level x.price < level o.price) b.buy
 
-pub all_any : {X : Type 0} (P : X → Type 0) → ((x : X) → P x) → (l : List X) → AllByRecursion P l
+all_any : {X : Type 0} (P : X → Type 0) → ((x : X) → P x) → (l : List X) → AllByRecursion P l
 all_any P h [] = tt
 all_any P h (x ∷ l) = (h x, all_any P h l)
 
@@ -87,7 +87,7 @@ uncrossed_with : (s : Side) (l : List Order) (b : Both (List Order)) → AllByRe
 uncrossed_with Buy l b h = h
 uncrossed_with Sell l b h = all_flip (λ (y x : Order). level x.price < level y.price) l b.buy h
 
-pub queues_stands : (s : Side) (l : List Order) (q : Queues) → ConsistentQueues q → length l ≤ at s q.standing_capacity → Sorted rank_of l → AllByRecursion (OnSide s) l →
+queues_stands : (s : Side) (l : List Order) (q : Queues) → ConsistentQueues q → length l ≤ at s q.standing_capacity → Sorted rank_of l → AllByRecursion (OnSide s) l →
     AllByRecursion (CrossesNone s q.stands) l → ConsistentQueues (with_stands s l q)
 queues_stands s l q g n o d c = record {
   bounded = elim [ Orders t ↦ at_with (λ t l. length l ≤ at t q.standing_capacity) s l q.stands n (λ t. g.bounded (Orders t)) t | Stops t ↦ g.bounded (Stops t) ];
@@ -98,7 +98,7 @@ queues_stands s l q g n o d c = record {
   uncrossed = uncrossed_with s l q.stands c;
 }
 
-pub queues_waits : (s : Side) (l : List Stop) (q : Queues) → ConsistentQueues q → length l ≤ at s q.waiting_capacity → Sorted stop_rank_of l → AllByRecursion (StopOnSide s) l →
+queues_waits : (s : Side) (l : List Stop) (q : Queues) → ConsistentQueues q → length l ≤ at s q.waiting_capacity → Sorted stop_rank_of l → AllByRecursion (StopOnSide s) l →
     ConsistentQueues (with_waits s l q)
 queues_waits s l q g n o d = record {
   bounded = elim [ Orders t ↦ g.bounded (Orders t) | Stops t ↦ at_with (λ t l. length l ≤ at t q.waiting_capacity) s l q.waits n (λ t. g.bounded (Stops t)) t ];
@@ -184,7 +184,7 @@ none_within_crosses_none o Sell b h = All-weaker (λ (a : Order). leb (level o.p
 pub ranks_lower : (a b : Rank) → ranks_ahead b a ≡ false → a.key ≤ b.key
 ranks_lower a b h = grind (arith, nat_tests)
 
-pub no_better : (s : Side) (limit p p' : Price) (t n t' n' : ℕ) → InPriceRange p → InPriceRange p' → within_limit s limit p ≡ false →
+no_better : (s : Side) (limit p p' : Price) (t n t' n' : ℕ) → InPriceRange p → InPriceRange p' → within_limit s limit p ≡ false →
     ranks_ahead (record { key = order_key (opposite s) p'; turn = t'; number = n' }) (record { key = order_key (opposite s) p; turn = t; number = n }) ≡ false →
     within_limit s limit p' ≡ false
 no_better Buy limit p p' t n t' n' l l' h k =

@@ -73,7 +73,7 @@ after_step_unchanged form t f r c m = record { quiescent = c; lines = []; tape_g
     go (Ok x) = tally_agrees_idle f t c.idle m
     go (Err e) = m
 
-pub after_step_accepted : (form : Form) (t : Tally) (f g : MatchState) → AfterAccepted (request form) t f g → AfterStep form t f (Ok tt) g
+after_step_accepted : (form : Form) (t : Tally) (f g : MatchState) → AfterAccepted (request form) t f g → AfterStep form t f (Ok tt) g
 after_step_accepted form t f g h = record {
   quiescent = h.quiescent;
   lines = h.lines_tell.lines;
@@ -91,7 +91,7 @@ after_step_of form f t P act (Err e) c m h accepted = after_step_unchanged form 
 
 -- what holds where a check passes
 
-pub ok_is : {A : Type 0} (P : A → Type 0) (r : Result A Refusal) → IfOk P r → IfOk (λ x. P x × (r ≡ Ok x)) r
+ok_is : {A : Type 0} (P : A → Type 0) (r : Result A Refusal) → IfOk P r → IfOk (λ x. P x × (r ≡ Ok x)) r
 ok_is P (Ok x) h = (h, refl)
 ok_is P (Err e) h = tt
 

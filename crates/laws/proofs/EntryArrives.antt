@@ -83,7 +83,7 @@ no_trade_arrival a stamp q t =
 
 -- the tally has the entry's order
 
-pub entered_tally_row : (a : NewOrder) (price : Price) (p : Status) (stamp : ℕ) → ValidEntry a →
+entered_tally_row : (a : NewOrder) (price : Price) (p : Status) (stamp : ℕ) → ValidEntry a →
     ((n : ℕ) → as_tally_row p (entered_row a price stamp) ≡ entered_account_row a price stamp stamp) → (turn : ℕ) → turn ≡ stamp →
     entered_account_row a price stamp turn ≡ tally_row p (entered_order a price stamp)
 entered_tally_row a price p stamp h e turn z = ap (entered_account_row a price stamp) z ∙ (sym (e 0) ∙ sym (ap (as_tally_row p) (order_from_row a price stamp h.allowed)))

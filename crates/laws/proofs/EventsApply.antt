@@ -170,7 +170,7 @@ counts_itself p o = rw (eq-eqb o.number o.number refl) refl
 rank_itself : (k : Rank) → same_rank k k ≡ true
 rank_itself k = grind (arith, nat_tests)
 
-pub rewrites : (i : ℕ) (x o : Order) (q : Queues) → slice_get (at o.side q.stands) i ≡ Some x → rank_of x ≡ rank_of o →
+rewrites : (i : ℕ) (x o : Order) (q : Queues) → slice_get (at o.side q.stands) i ≡ Some x → rank_of x ≡ rank_of o →
     rewritten i (Standing o) q ≡ record_set i (Standing o) q
 rewrites i x o q e k =
     cond-true (rewrite_allowed i (Standing o) q) (record_set i (Standing o) q) q (ap (ranks_as rank_of o) e ∙ (ap (λ z. same_rank z (rank_of o)) k ∙ rank_itself (rank_of o)))

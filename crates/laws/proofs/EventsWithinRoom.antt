@@ -46,7 +46,7 @@ never_twice : (e : Record) (q : Queues) → queued (with_number (number_of e)) q
 never_twice e q n k = not_twice (ltb (count (queue_of e) q) (capacity (queue_of e) q)) (sym (put_new e q n) ∙ k)
 
 -- the number of the incoming order is in no queue
-pub incoming_alone : (f : MatchState) (o : Order) → f.incoming ≡ Some o → NumbersUnique f → queued (with_number o.number) f.queues ≡ 0
+incoming_alone : (f : MatchState) (o : Order) → f.incoming ≡ Some o → NumbersUnique f → queued (with_number o.number) f.queues ≡ 0
 incoming_alone f o h s = let z : of_incoming (with_number o.number incoming) f.incoming ≡ with_number o.number incoming o = ap
     (of_incoming (with_number o.number incoming)) h in omega (arith, s o.number, counts_itself incoming o)
 
@@ -81,7 +81,7 @@ outcome_within lots stamp r h = outcome_cases lots r (λ k. outcome_in_bounds k 
     (λ _ more. in_bounds_from (with_lots stamp (r.open_lots - lots) (showing r.disclosed (r.open_lots - lots)) r) (refilled_fits stamp lots r more))
     (λ less. in_bounds_from (with_lots r.turn (r.open_lots - lots) (r.shown - lots) r) (reduced_fits lots r less))
 
-pub bounds_kept : (e : Event) (f : MatchState) → EventInBounds e f
+bounds_kept : (e : Event) (f : MatchState) → EventInBounds e f
 bounds_kept (trades o r) f = (
   (λ h. in_bounds_from (with_lots o.turn (o.open_lots - trade_lots o r) (showing o.disclosed (o.open_lots - trade_lots o r)) o)
       (refilled_fits o.turn (trade_lots o r) o h)),

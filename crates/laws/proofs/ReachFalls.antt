@@ -194,10 +194,10 @@ module _ (o r : Order) (l : List Order) (turn : ℕ) (w : within_limit o.side o.
       (better_or_same (opposite o.side) r.price p d.0.1 (own_in_range (opposite o.side) o p l e d.1)
       (subst (λ (s : Side). order_key s r.price ≤ order_key (opposite o.side) p) d.0.0 (own_behind (opposite o.side) o p (rank_of r) l e d.1 h.0)))
 
-  pub reach_filled : r.open_lots ≡ r.shown → reach o l + r.shown ≡ reach o (r ∷ l)
+  reach_filled : r.open_lots ≡ r.shown → reach o l + r.shown ≡ reach o (r ∷ l)
   reach_filled k = reach_by_filled (own_price o l) refl k ∙ sym (ap (λ m. reach_by m o (r ∷ l)) first_is)
 
-  pub reach_refilled : r.shown < r.open_lots → reach o (put_by_rank rank_of (order_refilled turn r.shown r) l) + r.shown ≡ reach o (r ∷ l)
+  reach_refilled : r.shown < r.open_lots → reach o (put_by_rank rank_of (order_refilled turn r.shown r) l) + r.shown ≡ reach o (r ∷ l)
   reach_refilled k =
       let y : Order = order_refilled turn r.shown r in
       let a : reach o (put_by_rank rank_of y l) ≡ reach_by (own_price o l) o (put_by_rank rank_of y l) = ap (λ m. reach_by m o (put_by_rank rank_of y l)) (own_put o y l not_own) in

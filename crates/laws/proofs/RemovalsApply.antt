@@ -71,7 +71,7 @@ pub record AfterRemovals (q : Request) (t : Tally) (f g : MatchState) : Type 0 w
   pub room_for_removals : RoomForRemovals g
   pub trace : Trace f g
 
-pub after_no_removal : (q : Request) (t : Tally) (f : MatchState) → Quiescent f → RoomForRemovals f → TallyAgrees t f → AfterRemovals q t f f
+after_no_removal : (q : Request) (t : Tally) (f : MatchState) → Quiescent f → RoomForRemovals f → TallyAgrees t f → AfterRemovals q t f f
 after_no_removal q t f c s m = record { quiescent = c; lines = []; tape_grew = refl; fair = tt; matches = m; room_for_removals = s; trace = ended }
 
 after_more_removals : (q : Request) (t : Tally) (f g h : MatchState) → (a : AfterRemovals q t f g) → AfterRemovals q (noted q a.lines t) g h → AfterRemovals q t f h

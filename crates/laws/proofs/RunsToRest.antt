@@ -106,7 +106,7 @@ pub data RunsTo : MatchState → MatchState → Type 0 where
   at_end : {f : MatchState} → RunsTo f f
   at_next : {f g : MatchState} (e : Event) → MayRun e f → RoomFor e f → RunsTo (apply e f) g → RunsTo f g
 
-pub runs_to_consistent : {f g : MatchState} → RunsTo f g → Consistent f → Consistent g
+runs_to_consistent : {f g : MatchState} → RunsTo f g → Consistent f → Consistent g
 runs_to_consistent at_end s = s
 runs_to_consistent (at_next {f} e n r l) s = runs_to_consistent l (consistent_apply e f n.0 r s)
 

@@ -66,7 +66,7 @@ abbrev pub adjusted_measure : (Account → Option Account) → RowMeasure → Me
 adjusted_measure h g p o = on_account_if g (h (account p (tally_row p o)))
 
 -- an event on the match state is a change of the accounts of the orders that it takes out
-pub sums_adjusted : (w : Measure) (h : Account → Option Account) (e : Event) (f : MatchState) (l : List Account) → MayApply e f → Consistent f → measure_untouched w e f ≡ 0 →
+sums_adjusted : (w : Measure) (h : Account → Option Account) (e : Event) (f : MatchState) (l : List Account) → MayApply e f → Consistent f → measure_untouched w e f ≡ 0 →
     ((p : Status) (o : Order) → w p o ≡ 0 → h (account p (tally_row p o)) ≡ Some (account p (tally_row p o))) →
     ((g : RowMeasure) → measure_out e f (adjusted_measure h g) ≡ measure_in e f (of_tally_row g)) → ((g : RowMeasure) → total (on_account g) l ≡ everywhere (of_tally_row g) f) →
     (g : RowMeasure) → total (on_account g) (adjust h l) ≡ everywhere (of_tally_row g) (apply e f)
@@ -132,17 +132,17 @@ module _ (o r : Order) (f : MatchState) (fit : MayApply (trades o r) f) (s : Con
   abbrev pub the_traders : Measure
   the_traders p x = with_number o.number p x + with_number r.number p x
 
-  pub no_other_trader : measure_untouched the_traders (trades o r) f ≡ 0
+  no_other_trader : measure_untouched the_traders (trades o r) f ≡ 0
   no_other_trader =
       let e : Event = trades o r in
       let a = untouched_unnumbered e f fit s.accounted o.number (omega (arith, counts_itself incoming o)) in
       let b = untouched_unnumbered e f fit s.accounted r.number (omega (arith, counts_itself stands r)) in
       omega (arith, over_plus (untouched_queues e f) None (with_number o.number) (with_number r.number))
 
-  pub incoming_named : (eqb o.number o.number || eqb o.number r.number) ≡ true
+  incoming_named : (eqb o.number o.number || eqb o.number r.number) ≡ true
   incoming_named = or_left (eqb o.number o.number) (eqb o.number r.number) (eq-eqb o.number o.number refl)
 
-  pub resting_named : (eqb r.number o.number || eqb r.number r.number) ≡ true
+  resting_named : (eqb r.number o.number || eqb r.number r.number) ≡ true
   resting_named = or_right (eqb r.number o.number) (eqb r.number r.number) (eq-eqb r.number r.number refl)
 
   others_unnamed : (p : Status) (x : Order) → the_traders p x ≡ 0 → (eqb x.number o.number || eqb x.number r.number) ≡ false

@@ -37,7 +37,7 @@ use Rattle.laws.proofs.ReachFalls.{reach_none_within, reach_own, reach_front_tra
 
 -- the lines of a tape stay
 
-pub total-++ : {X : Type 0} (f : X → ℕ) (l k : List X) → total f (l ++ k) ≡ total f l + total f k
+total-++ : {X : Type 0} (f : X → ℕ) (l k : List X) → total f (l ++ k) ≡ total f l + total f k
 total-++ f [] k = omega arith
 total-++ f (x ∷ l) k = let ih = total-++ f l k in omega arith
 
@@ -80,7 +80,7 @@ module _ (turn lots : ℕ) (o : Order) where
   same_by None l = same_open None l
   same_by (Some p) l = omega (arith, same_open (Some p) l, same_shown p l)
 
-  pub same_reach : (l : List Order) → reach (order_refilled turn lots o) l ≡ reach o l
+  same_reach : (l : List Order) → reach (order_refilled turn lots o) l ≡ reach o l
   same_reach l = ap (λ m. reach_by m (order_refilled turn lots o) l) (same_own l) ∙ same_by (own_price o l) l
 
 -- the turn of a standing order is below the next stamp
@@ -133,7 +133,7 @@ counts_own : (n lots : ℕ) → counting n n lots ≡ lots
 counts_own n lots = cond-true (eqb n n) lots 0 (eq-eqb n n refl)
 
 -- the incoming order trades at least the smaller of its open lots and its reach
-pub run_events_trades : (k : ℕ) (f : MatchState) (o : Order) → Consistent f → RoomForRest f → f.incoming ≡ Some o → weight f ≤ k →
+run_events_trades : (k : ℕ) (f : MatchState) (o : Order) → Consistent f → RoomForRest f → f.incoming ≡ Some o → weight f ≤ k →
     min o.open_lots (reach o (at (opposite o.side) f.queues.stands)) + traded_on o.number f ≤ traded_on o.number (run_events k f)
 run_events_trades zero f o s h w m = let z : incoming_weight f.incoming ≡ 17 = ap incoming_weight w in absurd (omega arith)
 run_events_trades (suc k) f o s h w m = go (at (opposite o.side) f.queues.stands) refl (run_events_trades k)

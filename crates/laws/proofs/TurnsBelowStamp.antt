@@ -16,7 +16,7 @@ use Rattle.laws.proofs.LinesAndStamps.{RoomFor, stamp_is}
 abbrev pub turn_undrawn : ℕ → Measure
 turn_undrawn stamp p o = cond (ltb o.turn stamp) 0 1
 
-pub turn_drawn : (stamp : ℕ) (p : Status) (o : Order) → o.turn < stamp → turn_undrawn stamp p o ≡ 0
+turn_drawn : (stamp : ℕ) (p : Status) (o : Order) → o.turn < stamp → turn_undrawn stamp p o ≡ 0
 turn_drawn stamp p o h = cond-true (ltb o.turn stamp) 0 1 (lt-ltb o.turn stamp h)
 
 pub turn_below : (stamp : ℕ) (p : Status) (o : Order) → turn_undrawn stamp p o ≡ 0 → o.turn < stamp

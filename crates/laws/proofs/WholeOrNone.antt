@@ -128,7 +128,7 @@ module _ (a : NewOrder) (f : MatchState) (p : ValidEntry a) (s : RoomForStep f) 
       plain true y z e h = or_parts y z h
       plain false y z e h = absurd (both_ways false refl e)
 
-  pub filled_enter : Filled a (traded_on f.session.next_stamp (enter a f))
+  filled_enter : Filled a (traded_on f.session.next_stamp (enter a f))
   filled_enter =
       arrival_cases a f.session.next_stamp f.queues FilledAfter (λ price _ e. filled_accepts price e) (λ price _. filled_accepts_and_cancels ShortReach price) filled_accepts_unmatched
       (λ limit trigger k _ _ _. filled_stop (ap is_stop k) _) (λ limit _ _ _ _. filled_accepts_and_cancels NotPut limit)

@@ -62,7 +62,7 @@ after_step_on (Closed o) (MassCancel form) q r t c m = after_step_unchanged (Mas
 after_step_on (Closed o) Closing q r t c m = after_step_unchanged Closing t (between_steps q r o.session) _ c m
 after_step_on (Closed o) (Opening form) q r t c m = after_step_opening form (opening_result form o.day q r) o.day (between_steps q r o.session) t c m
 
-pub after_step : (form : Form) (s : State) (t : Tally) → Quiescent (state_between_steps s) → TallyAgrees t (state_between_steps s) → AfterStep form t (state_between_steps s) (answer form s) (state_between_steps (step form s))
+after_step : (form : Form) (s : State) (t : Tally) → Quiescent (state_between_steps s) → TallyAgrees t (state_between_steps s) → AfterStep form t (state_between_steps s) (answer form s) (state_between_steps (step form s))
 after_step form s t c m = after_step_on s.day form s.queues s.tape t c m
 
 -- the lines that a step wrote
@@ -71,15 +71,15 @@ taken_front a b =
     let n : length (a ++ b) - length b ≡ length a = omega (arith, length-append a b) in
     rw n (take-append-le (length a) a b (le_refl (length a)) ∙ take_all (length a) a (le_refl (length a)))
 
-pub written_is : (s s' : State) (lines : List Line) → s'.tape.lines ≡ lines ++ s.tape.lines → step_lines s s' ≡ lines
+written_is : (s s' : State) (lines : List Line) → s'.tape.lines ≡ lines ++ s.tape.lines → step_lines s s' ≡ lines
 written_is s s' lines e = subst (λ l. take (length l - length s.tape.lines) l ≡ lines) (sym e) (taken_front lines s.tape.lines)
 
-pub matches_step : (form : Form) (s : State) (t : Tally) → Quiescent (state_between_steps s) → TallyAgrees t (state_between_steps s) → TallyAgrees (tallied form s t) (state_between_steps (step form s))
+matches_step : (form : Form) (s : State) (t : Tally) → Quiescent (state_between_steps s) → TallyAgrees t (state_between_steps s) → TallyAgrees (tallied form s t) (state_between_steps (step form s))
 matches_step form s t c m =
     let k = after_step form s t c m in
     subst (λ l. TallyAgrees (tally_fed (answer form s) (request form) l t) (state_between_steps (step form s))) (sym (written_is s (step form s) k.lines k.tape_grew)) k.matches
 
-pub lawful_quiescent : (s : State) → Quiescent (state_between_steps s) → Lawful s
+lawful_quiescent : (s : State) → Quiescent (state_between_steps s) → Lawful s
 lawful_quiescent s c = record { balanced = λ n. omega (arith, c.consistent.accounted.balanced n); uncrossed = c.consistent.queues.uncrossed; unripe = c.unripe }
 
 pub always_lawful : (forms : List Form) (s : State) (t : Tally) → Quiescent (state_between_steps s) → TallyAgrees t (state_between_steps s) → Throughout Lawful forms s
@@ -127,7 +127,7 @@ tally_agrees_set_up day stamp q limit = record { sums = λ g. refl; turns = refl
 
 -- after any list of steps, and after setting up and any list of steps
 
-pub quiescent_after : (forms : List Form) (s : State) (t : Tally) → Quiescent (state_between_steps s) → TallyAgrees t (state_between_steps s) →
+quiescent_after : (forms : List Form) (s : State) (t : Tally) → Quiescent (state_between_steps s) → TallyAgrees t (state_between_steps s) →
     Quiescent (state_between_steps (after forms s)) × TallyAgrees (tally_after forms s t) (state_between_steps (after forms s))
 quiescent_after [] s t c m = (c, m)
 quiescent_after (form ∷ forms) s t c m = quiescent_after forms (step form s) (tallied form s t) (after_step form s t c m).quiescent (matches_step form s t c m)
