@@ -1,4 +1,4 @@
--- Values, as they stand behind the `=`: read as a cell of a sheet is, or one of a few words
+-- Values, as a line has them after the `=`: read as a cell of a sheet is, or one of a few words
 -- (lines 1).
 use Rattle.std.specs.Prelude.{ℕ, List, Some, None, Ok, Err, codes, Option, Result, if◌then◌else◌}
 use Rattle.std.specs.Str.{bytes_eq}

@@ -1,4 +1,4 @@
-// Values, as the cells of a line have them behind the `=`.
+// Values, as a line has them after the `=`.
 ghost use Rattle.std.specs.Prelude.{◌≡◌};
 ghost use Rattle.line_format.specs.Values.{side_word, validity_word, number_value, worded, read_value};
 

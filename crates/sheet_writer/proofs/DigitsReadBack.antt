@@ -1,4 +1,4 @@
--- What stands behind the digits of a number, and what reading cells gives.
+-- A number or a price that is written reads as it was.
 use Rattle.std.proofs.Common.{◌≡◌, ℕ, zero, suc, ◌+◌, ◌*◌, ◌/◌, ◌%◌, ◌<◌, ◌≤◌, Bool, true, false, List, [], ◌∷◌, ◌++◌, length, get_or, take, drop, Some, None, Ok, sym, ap, ◌∙◌, refl, ltb-true, append-nil, take_all, take_at, drop_at, drop-drop, length-append, arith}
 use Rattle.std.proofs.lemmas.Bool.Decides.{nat_tests}
 use Rattle.std.proofs.lemmas.Fmt.{decimal_is_IsNumeral, length-decimal-le, decimal_digit}
@@ -51,7 +51,7 @@ digit_is t small = grind (arith, nat_tests)
 value_is : (t : ℕ) → t < 10 → digit_value (48 + t) ≡ t
 value_is t small = omega (arith, digit_value_digit (48 + t) (omega arith, omega arith))
 
--- two digits behind the comma
+-- two digits after the comma
 cents_back : (before units t u : ℕ) → t < 10 → u < 10
     → read_cents before units ((48 + t) ∷ (48 + u) ∷ []) ≡ Ok (Some (record { hundredths = units * 100 + (t * 10 + u) }))
 cents_back before units t u ht hu =

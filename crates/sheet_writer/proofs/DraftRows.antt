@@ -21,7 +21,7 @@ first_within : (n : ℕ) (ns bs : List ℕ) → sum (n ∷ ns) ≡ length bs →
 first_within n ns bs e =
     (omega (arith, sum_by-cons (λ (x : ℕ). x) n ns), omega (arith, sum_by-cons (λ (x : ℕ). x) n ns, length-drop n bs))
 
--- the parts have these lengths and, one behind the other, these bytes
+-- the parts have these lengths and, one after the other, these bytes
 lengths_cut : (ns bs : List ℕ) → sum ns ≡ length bs → map length (cut_by_lengths ns bs) ≡ ns
 lengths_cut [] bs e = refl
 lengths_cut (n ∷ ns) bs e =

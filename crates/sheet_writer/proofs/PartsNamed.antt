@@ -19,21 +19,21 @@ pub record PartsFrom (d : Directory) (bs : List ℕ) (j at : ℕ) (parts : List 
   pub there : bs ≡ front ++ concat parts
   pub place : length front ≡ at
 
--- a byte behind others
-byte_behind : (bs before rest : List ℕ) (i k : ℕ) → bs ≡ before ++ rest → i ≡ length before + k → get_or bs i 0 ≡ get_or rest k 0
-byte_behind bs before rest i k e h = rw (e, h) (get_or-append-add before rest k 0)
+-- a byte after others
+byte_after : (bs before rest : List ℕ) (i k : ℕ) → bs ≡ before ++ rest → i ≡ length before + k → get_or bs i 0 ≡ get_or rest k 0
+byte_after bs before rest i k e h = rw (e, h) (get_or-append-add before rest k 0)
 
 -- pair j has the place and the length of the first part
 first_named : (d : Directory) (bs : List ℕ) (j at : ℕ) (p : List ℕ) (ps : List (List ℕ)) → PartsFrom d bs j at (p ∷ ps)
     → (offset_at d bs j ≡ at) × (length_at d bs j ≡ length p)
 first_named Rows bs j at p ps l =
-    let a = byte_behind bs l.before _ (4 * j + 2) 0 l.named (omega (arith, l.from)) in
-    let b = byte_behind bs l.before _ (4 * j + 2 + 1) 1 l.named (omega (arith, l.from)) in
-    let c = byte_behind bs l.before _ (4 * j + 4) 2 l.named (omega (arith, l.from)) in
-    let e = byte_behind bs l.before _ (4 * j + 4 + 1) 3 l.named (omega (arith, l.from)) in
+    let a = byte_after bs l.before _ (4 * j + 2) 0 l.named (omega (arith, l.from)) in
+    let b = byte_after bs l.before _ (4 * j + 2 + 1) 1 l.named (omega (arith, l.from)) in
+    let c = byte_after bs l.before _ (4 * j + 4) 2 l.named (omega (arith, l.from)) in
+    let e = byte_after bs l.before _ (4 * j + 4 + 1) 3 l.named (omega (arith, l.from)) in
     (omega (arith, a, b), omega (arith, c, e))
 first_named Cells bs j at p ps l =
-    (byte_behind bs l.before _ (2 * j + 2) 0 l.named (omega (arith, l.from)), byte_behind bs l.before _ (2 * j + 3) 1 l.named (omega (arith, l.from)))
+    (byte_after bs l.before _ (2 * j + 2) 0 l.named (omega (arith, l.from)), byte_after bs l.before _ (2 * j + 3) 1 l.named (omega (arith, l.from)))
 
 -- and the part there is the first part, which ends inside
 first_part : (d : Directory) (bs : List ℕ) (j at : ℕ) (p : List ℕ) (ps : List (List ℕ)) → PartsFrom d bs j at (p ∷ ps) → part_at d bs j ≡ p
@@ -85,14 +85,14 @@ each_part d bs j at (p ∷ ps) l i zero x h e =
 each_part d bs j at (p ∷ ps) l i (suc k) x h e =
     each_part d bs (j + 1) (at + length p) ps (next d bs j at p ps l) i k x (omega arith) e
 
--- a directory ends behind a head of two bytes and its pairs
+-- a directory has a head of two bytes and its pairs
 pub directory_size : (d : Directory) (at : ℕ) (ns : List ℕ) → 2 + length (pairs d at ns) ≡ directory_end d (length ns)
 directory_size Rows at [] = refl
 directory_size Cells at [] = refl
 directory_size Rows at (n ∷ ns) = omega (arith, directory_size Rows (at + n) ns)
 directory_size Cells at (n ∷ ns) = omega (arith, directory_size Cells (at + n) ns)
 
--- a directory begins behind two bytes
+-- a directory without pairs has two bytes
 begins : (d : Directory) → 2 ≡ directory_end d 0
 begins Rows = refl
 begins Cells = refl

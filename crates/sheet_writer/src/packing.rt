@@ -69,7 +69,7 @@ impl Parts {
         Ok(())
     }
 
-    // The directory behind a head of two bytes, and the parts.
+    // A head of two bytes, the directory of the parts, and the parts.
     pub(crate) fn packed(&self, heap: Global, head: &[u8]) -> Result<Vec<u8>, AllocError>
         ensures { IfOk result (λ packed. vec_items packed ≡ bytes_behind head.now self.now) }
     {

@@ -38,7 +38,7 @@ module _ (bs : List ℕ) where
       (λ full. (replicate 0 48, begun_number n 0 h (omega arith) (omega (arith, within_most 12 bs))))
       (cases_lt n 12)
 
-  -- no good number has the byte behind them
+  -- no good number has the byte that follows them
   number_ends : digits 12 bs < length bs → (rest : List ℕ) → GoodNumber (take (digits 12 bs + 1) bs ++ rest) → ⊥
   number_ends h rest g =
       let n = digits 12 bs in
@@ -123,7 +123,7 @@ module _ (bs : List ℕ) where
       ))
       (cases_eq (digits 6 bs) 0)
 
-  -- no good price goes on with the byte behind them, unless that is the comma
+  -- no good price has the byte that follows them, unless that is the comma
   wrong_whole : (1 ≤ digits 6 bs → get_or bs (digits 6 bs) 0 ≡ 44 → ⊥) → digits 6 bs < length bs
       → (xs : List ℕ) → ((i : ℕ) → i < digits 6 bs + 1 → get_or xs i 0 ≡ get_or bs i 0) → GoodPrice xs → ⊥
   wrong_whole nc h xs same g =
@@ -146,11 +146,11 @@ module _ (bs : List ℕ) where
         (λ i k. front_put bs b.0 (digits 6 bs + 1) (omega arith) i k) b.1;
   }
 
--- what stands behind the comma of a price, where there is one
+-- the bytes after the comma of a price, where there is one
 abbrev cents : List ℕ → List ℕ
 cents bs = drop (digits 6 bs + 1) bs
 
--- a price with its comma: the digits behind it
+-- a price with its comma: the digits after it
 module _ (bs : List ℕ) (some : 1 ≤ digits 6 bs) (comma : get_or bs (digits 6 bs) 0 ≡ 44) where
   there : digits 6 bs < length bs
   there = ⊎_elim (λ less. less)

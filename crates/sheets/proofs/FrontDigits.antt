@@ -1,4 +1,4 @@
--- The digits at the front of a cell, and a front with something put behind it.
+-- The digits at the front of a cell, and the front of a cell with other bytes after it.
 use Rattle.std.proofs.Common.{◌≡◌, ℕ, ◌+◌, ◌-◌, ◌<◌, ◌≤◌, true, false, List, ◌++◌, length, get_or, take, sym, ap, ◌∙◌, arith}
 use Rattle.std.proofs.lemmas.List.{length-take, length-take-le, length-append, get_or-take, get_or_append_left, get_or-append_right}
 use Rattle.std.proofs.lemmas.List.Sums.{prefix_len-le-length, prefix_len_passes, prefix_len_stops}
@@ -21,7 +21,7 @@ module _ (most : ℕ) (bs : List ℕ) where
       ap is_digit (sym (get_or-take most bs (digits most bs) 0 h))
       ∙ prefix_len_stops is_digit (take most bs) 0 (omega (arith, length-take most bs))
 
--- the first n bytes with others behind them
+-- the first n bytes with others after them
 module _ (bs rest : List ℕ) (n : ℕ) (within : n ≤ length bs) where
   pub length_put : length (take n bs ++ rest) ≡ n + length rest
   length_put = omega (arith, length-append (take n bs) rest, length-take-le n bs within)

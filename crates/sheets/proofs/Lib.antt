@@ -3,5 +3,6 @@ mod PairRuleHolds
 pub mod DigitValues
 mod FrontDigits
 mod PairsInside
+mod ReadFromOwnBytes
 mod FirstWrongByte
 mod OnePairMore

@@ -1,4 +1,4 @@
--- The walk over a directory stops at the first pair that breaks the rule, and nowhere else.
+-- The search for a misplaced pair finds the first pair that breaks the pair rule, and no other.
 use Rattle.std.proofs.Common.{◌≡◌, ℕ, zero, suc, ◌+◌, ◌<◌, ◌≤◌, ◌⊎◌, List, length, Some, None, Option, sym, refl, ⊎_elim, add-one, arith}
 use Rattle.std.proofs.lemmas.Bool.{cases_eq}
 use Rattle.std.proofs.lemmas.Bool.Decides.{nat_tests}
@@ -7,33 +7,33 @@ use Rattle.sheets.specs.PairRule.{KeepsRule, FirstBreaking, PairRule}
 use Rattle.sheets.specs.declared.directory.Directory.{Directory}
 
 module _ (d : Directory) (bs : List ℕ) (n : ℕ) where
-  -- the walk has come to pair k: all before it keep the rule, and `least` is where it may start
-  pub record Come (k least : ℕ) : Type 0 where
+  -- the search has reached pair k: all before it keep the rule, and it may start at `least`
+  pub record Reached (k least : ℕ) : Type 0 where
     pub within : k ≤ n
     pub behind : directory_end d n ≤ least
     pub first : k ≡ 0 → least ≡ directory_end d n
     pub before : (j : ℕ) → j + 1 ≡ k → ends_at d bs j ≡ least
     pub kept : (j : ℕ) → j < k → KeepsRule d bs n j
 
-  sound : (k least x : ℕ) → pair_end d bs k least ≡ Some x
+  placed : (k least x : ℕ) → pair_end d bs k least ≡ Some x
       → (x ≡ ends_at d bs k) × (least ≤ offset_at d bs k) × (ends_at d bs k ≤ length bs)
-  sound k least x p = (grind (arith, nat_tests), grind (arith, nat_tests), grind (arith, nat_tests))
+  placed k least x p = (grind (arith, nat_tests), grind (arith, nat_tests), grind (arith, nat_tests))
 
-  unsound : (k least : ℕ) → pair_end d bs k least ≡ None → (offset_at d bs k < least) ⊎ (length bs < ends_at d bs k)
-  unsound k least p = grind (arith, nat_tests)
+  misplaced : (k least : ℕ) → pair_end d bs k least ≡ None → (offset_at d bs k < least) ⊎ (length bs < ends_at d bs k)
+  misplaced k least p = grind (arith, nat_tests)
 
-  -- a pair that is placed keeps the rule
-  here : (k least x : ℕ) → Come k least → pair_end d bs k least ≡ Some x → KeepsRule d bs n k
-  here k least x c p = let s = sound k least x p in record {
+  -- a pair that is not misplaced keeps the rule
+  here : (k least x : ℕ) → Reached k least → pair_end d bs k least ≡ Some x → KeepsRule d bs n k
+  here k least x c p = let s = placed k least x p in record {
     behind = omega (arith, c.behind);
     after = λ j e. omega (arith, c.before j e);
     inside = s.2;
   }
 
-  -- and the walk comes to the next one
-  next : (k least x : ℕ) → k < n → Come k least → pair_end d bs k least ≡ Some x → Come (k + 1) x
+  -- and the search reaches the next one
+  next : (k least x : ℕ) → k < n → Reached k least → pair_end d bs k least ≡ Some x → Reached (k + 1) x
   next k least x l c p =
-      let s = sound k least x p in
+      let s = placed k least x p in
       record {
         within = omega arith;
         behind = omega (arith, c.behind);
@@ -42,28 +42,28 @@ module _ (d : Directory) (bs : List ℕ) (n : ℕ) where
         kept = λ j h. ⊎_elim (λ e. rw e (here k least x c p)) (λ e. c.kept j (omega arith)) (cases_eq j k);
       }
 
-  -- a pair that is not placed breaks the rule
-  breaks : (k least : ℕ) → Come k least → pair_end d bs k least ≡ None → KeepsRule d bs n k → ⊥
+  -- a misplaced pair breaks the rule
+  breaks : (k least : ℕ) → Reached k least → pair_end d bs k least ≡ None → KeepsRule d bs n k → ⊥
   breaks zero least c p q =
-      ⊎_elim (λ h. omega (arith, c.first refl, q.behind)) (λ h. omega (arith, q.inside)) (unsound zero least p)
+      ⊎_elim (λ h. omega (arith, c.first refl, q.behind)) (λ h. omega (arith, q.inside)) (misplaced zero least p)
   breaks (suc k) least c p q =
       let e : k + 1 ≡ suc k = add-one k in
-      ⊎_elim (λ h. omega (arith, c.before k e, q.after k e)) (λ h. omega (arith, q.inside)) (unsound (suc k) least p)
+      ⊎_elim (λ h. omega (arith, c.before k e, q.after k e)) (λ h. omega (arith, q.inside)) (misplaced (suc k) least p)
 
-  -- one turn: what is left of the walk is told by what it comes to
-  turn : (m k least : ℕ) → k < n → Come k least
-      → ((x : ℕ) → Come (k + 1) x → FirstBreaking d bs n (first_misplaced_from d bs m (k + 1) x))
+  -- the search from a pair on, by whether that pair is misplaced
+  from_pair : (m k least : ℕ) → k < n → Reached k least
+      → ((x : ℕ) → Reached (k + 1) x → FirstBreaking d bs n (first_misplaced_from d bs m (k + 1) x))
       → (o : Option ℕ) → pair_end d bs k least ≡ o
       → FirstBreaking d bs n (elim o [ Some x ↦ first_misplaced_from d bs m (k + 1) x | None ↦ Some (k + 1) ])
-  turn m k least l c again (Some x) p = again x (next k least x l c p)
-  turn m k least l c again None p = (k, refl, l, breaks k least c p, c.kept)
+  from_pair m k least l c again (Some x) p = again x (next k least x l c p)
+  from_pair m k least l c again None p = (k, refl, l, breaks k least c p, c.kept)
 
-  walked : (m k least : ℕ) → k + m ≡ n → Come k least → FirstBreaking d bs n (first_misplaced_from d bs m k least)
-  walked zero k least e c = λ j h. c.kept j (omega arith)
-  walked (suc m) k least e c =
-      turn m k least (omega arith) c (λ x c'. walked m (k + 1) x (omega arith) c') (pair_end d bs k least) refl
+  searched : (m k least : ℕ) → k + m ≡ n → Reached k least → FirstBreaking d bs n (first_misplaced_from d bs m k least)
+  searched zero k least e c = λ j h. c.kept j (omega arith)
+  searched (suc m) k least e c =
+      from_pair m k least (omega arith) c (λ x c'. searched m (k + 1) x (omega arith) c') (pair_end d bs k least) refl
 
 pub pair_rule : PairRule
 unfolding PairRule
-pair_rule d bs n = walked d bs n n 0 (directory_end d n) (omega arith)
+pair_rule d bs n = searched d bs n n 0 (directory_end d n) (omega arith)
     (record { within = omega arith; behind = omega arith; first = λ e. refl; before = λ j e. absurd (omega arith); kept = λ j h. absurd (omega arith) })

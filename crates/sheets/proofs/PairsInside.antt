@@ -1,20 +1,13 @@
--- Pairs that are placed lie inside, and two that name the same bytes name the same part.
-use Rattle.std.proofs.Common.{◌≡◌, ℕ, zero, suc, ◌+◌, ◌<◌, ◌≤◌, List, length, get_or, drop, Some, None, Ok, Err, Option, Result, sym, refl, ap, ◌∙◌, ⊎_elim, arith}
-use Rattle.std.proofs.lemmas.List.{length-take, length-drop, get_or-take, get_or-drop, ext_get_or}
+-- Where no pair of a directory is misplaced, each ends inside.
+use Rattle.std.proofs.Common.{◌≡◌, ℕ, zero, suc, ◌+◌, ◌<◌, ◌≤◌, List, length, Some, None, Option, refl, ap, ◌∙◌, ⊎_elim, arith}
 use Rattle.std.proofs.lemmas.Bool.{cases_eq}
 use Rattle.std.proofs.lemmas.Bool.Decides.{nat_tests}
-use Rattle.forms.specs.declared.refusal.Refusal.{Refusal}
-use Rattle.sheets.specs.OwnBytes.{RowAlone, CellAlone}
-use Rattle.sheets.specs.Layout.{word, part, offset_at, length_at, ends_at, pair_end, first_misplaced_from, first_misplaced, part_at}
-use Rattle.sheets.specs.Rows.{read_form, in_cell}
-use Rattle.sheets.specs.Cells.{read_number, read_price, read_type}
-use Rattle.sheets.specs.Sheets.{sheet_refusal, directory_refusal, misplaced_row, row_count}
+use Rattle.sheets.specs.Layout.{offset_at, ends_at, pair_end, first_misplaced_from}
 use Rattle.sheets.specs.declared.directory.Directory.{Directory}
-use Rattle.sheets.specs.declared.directory.Directory.TheVariants.{Rows, Cells}
 
 module _ (d : Directory) (bs : List ℕ) where
-  -- a walk that meets no misplaced pair: the pair at its start is placed, and the walk goes on from
-  -- its end
+  -- where a search finds no misplaced pair, its first pair is not misplaced, and a search from the
+  -- end of that pair finds none
   pub placed_first : (n k least : ℕ) → first_misplaced_from d bs (suc n) k least ≡ None
       → (pair_end d bs k least ≡ Some (ends_at d bs k)) × (first_misplaced_from d bs n (k + 1) (ends_at d bs k) ≡ None)
   placed_first n k least e = both (pair_end d bs k least) refl e
@@ -27,12 +20,12 @@ module _ (d : Directory) (bs : List ℕ) where
           (p ∙ ap Some same, rw same at q)
       both None p q = cc
 
-  -- what a placed pair keeps
+  -- a pair that is not misplaced starts where it may, and ends inside
   pub keeps : (k least : ℕ) → pair_end d bs k least ≡ Some (ends_at d bs k)
       → (least ≤ offset_at d bs k) × (ends_at d bs k ≤ length bs)
   keeps k least p = (grind (arith, nat_tests), grind (arith, nat_tests))
 
-  -- where none is misplaced, each ends inside
+  -- where no pair is misplaced, each ends inside
   pub inside : (n k least : ℕ) → first_misplaced_from d bs n k least ≡ None → (j : ℕ) → k ≤ j → j < k + n → ends_at d bs j ≤ length bs
   inside zero k least e j l h = absurd (omega arith)
   inside (suc n) k least e j l h =
@@ -40,43 +33,3 @@ module _ (d : Directory) (bs : List ℕ) where
       ⊎_elim (λ q. rw q (keeps k least p.0).1)
       (λ q. let less : k < j = omega arith in inside n (k + 1) (ends_at d bs k) p.1 j (omega arith) (omega arith))
       (cases_eq j k)
-
--- the same bytes, one by one, are the same part
-pub same_part : (a b : List ℕ) (p q m n : ℕ) → p + m ≤ length a → q + n ≤ length b → m ≡ n
-    → ((i : ℕ) → i < m → get_or a (p + i) 0 ≡ get_or b (q + i) 0) → part a p m ≡ part b q n
-same_part a b p q m n ha hb e same =
-    let la : length (part a p m) ≡ m = omega (arith, length-take m (drop p a), length-drop p a) in
-    let lb : length (part b q n) ≡ n = omega (arith, length-take n (drop q b), length-drop q b) in
-    ext_get_or 0 (part a p m) (part b q n) (la ∙ e ∙ sym lb)
-    (λ i h. get_or-take m (drop p a) i 0 (omega arith) ∙ get_or-drop p a i 0 ∙ same i (omega arith)
-    ∙ sym (get_or-drop q b i 0) ∙ sym (get_or-take n (drop q b) i 0 (omega arith)))
-
--- what an accepted sheet has: no row misplaced
-no_row : (bs : List ℕ) → sheet_refusal bs ≡ None → first_misplaced Rows bs (word bs 0) ≡ None
-no_row bs e = counted (row_count bs) refl e
-  where
-    none : (o : Option ℕ) → misplaced_row o ≡ None → o ≡ None
-    none None q = refl
-    none (Some row) q = cc
-
-    counted : (r : Result ℕ Refusal) → row_count bs ≡ r → directory_refusal bs r ≡ None → first_misplaced Rows bs (word bs 0) ≡ None
-    counted (Err x) p q = cc
-    counted (Ok rows) p q =
-        let same : rows ≡ word bs 0 = grind (arith, nat_tests) in
-        rw same at (none (first_misplaced Rows bs rows) q)
-
-pub row_alone : RowAlone
-unfolding RowAlone
-row_alone a b j k ra ja rb kb g =
-    ap read_form (same_part a b (offset_at Rows a j) (offset_at Rows b k) (length_at Rows a j) (length_at Rows b k)
-    (inside Rows a (word a 0) 0 _ (no_row a ra) j (omega arith) (omega arith))
-    (inside Rows b (word b 0) 0 _ (no_row b rb) k (omega arith) (omega arith)) g.0 g.1)
-
-pub cell_alone : CellAlone
-unfolding CellAlone
-cell_alone a b k ma ka mb kb g =
-    let e : part_at Cells a k ≡ part_at Cells b k =
-    same_part a b (offset_at Cells a k) (offset_at Cells b k) (length_at Cells a k) (length_at Cells b k)
-    (inside Cells a (get_or a 1 0) 0 _ ma k (omega arith) (omega arith))
-    (inside Cells b (get_or b 1 0) 0 _ mb k (omega arith) (omega arith)) g.0 g.1 in
-    (ap (λ (c : List ℕ). in_cell k (read_number c)) e, ap (λ (c : List ℕ). in_cell k (read_price c)) e, ap (λ (c : List ℕ). in_cell k (read_type c)) e)

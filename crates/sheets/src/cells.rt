@@ -14,7 +14,7 @@ const NUMBER_DIGITS: usize = 12;
 // The most digits before the comma of a price cell.
 const WHOLE_DIGITS: usize = 6;
 
-// The digits behind the comma.
+// The digits after the comma.
 const CENT_DIGITS: usize = 2;
 
 // The comma of a price cell.

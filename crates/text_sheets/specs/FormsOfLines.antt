@@ -63,7 +63,7 @@ word_blamed text refused =
     let line = unwrap_or (slice_get (lines_of_text text) (refused.line - 1)) [] in
     part line (refused.place - 1) refused.length
 
--- that word has bytes, as many as the refusal says (lines 2)
+-- that word has bytes, as many as the refusal gives (lines 2)
 pub record Blames (text : List ℕ) (refused : Refused) : Type 0 where
   pub counted : 1 ≤ refused.line
   pub some : 1 ≤ refused.length

@@ -11,7 +11,7 @@ use sheet_writer::draft::{Draft, Excess};
 use std::alloc::{AllocError, Global};
 
 // Adds the row of a line, where it has one. The values of a form that is read have room in their
-// cells, so `Excess::Value` cannot come.
+// cells, so that `add` never answers `Excess::Value`.
 fn add_line(
     heap: Global,
     draft: &mut Draft,
@@ -20,7 +20,8 @@ fn add_line(
 ) -> Result<Result<(), Refused>, AllocError>
     ensures added { (forms : List Form) → DraftHolds draft.old forms
         → IfOk result (LineAdded number line.now forms draft.new) }
-    ensures refused { IfOk result (λ answer. IfErr answer (RefusedInLine number (length line.now))) }
+    ensures refused { let size = length line.now in
+        IfOk result (λ answer. IfErr answer (RefusedInLine number size)) }
 {
     let form = match read_line(line) {
         Ok(Some(form)) => form,

@@ -2,7 +2,7 @@ use Rattle.std.proofs.Common.{sym, ◌∙◌, arith, rules, ltb-false}
 use Rattle.sheets.proofs.RowApart.{apart}
 use Rattle.sheets.proofs.PairRuleHolds.{pair_rule}
 use Rattle.sheets.proofs.FirstWrongByte.{cells_by_format}
-use Rattle.sheets.proofs.PairsInside.{row_alone, cell_alone}
+use Rattle.sheets.proofs.ReadFromOwnBytes.{row_alone, cell_alone}
 use Rattle.sheets.proofs.row.read_form.Goals as goal
 
 pub returns-in-len2-up : goal.returns-in-len2-up

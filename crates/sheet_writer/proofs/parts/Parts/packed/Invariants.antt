@@ -4,7 +4,8 @@ use Rattle.sheets.specs.Layout.{directory_end}
 use Rattle.sheet_writer.specs.PackedParts.{pairs}
 use Rattle.sheet_writer.proofs.parts.Parts.packed.Given as goal
 
--- the next part starts behind those so far, and what is left of the pairs gives the directory
+-- the next part starts where those so far end, and the pairs still to be written complete the
+-- directory
 abbrev pub invariant-loop-length : goal.invariant-loop-length
 invariant-loop-length l =
     let start = directory_end l.self.directory (length (vec_items l.self.lengths)) in
