@@ -1,4 +1,5 @@
--- What a reply says of each refusal: its number, the cell that it names, and the place in that cell (numbers 1 to 4).
+-- What a reply says of each refusal: its number, the cell that it names, and the place in that cell
+-- (numbers 1 to 4).
 use Rattle.std.specs.Prelude.{ℕ}
 use Rattle.forms.specs.declared.refusal.Refusal.{Refusal}
 use Rattle.forms.specs.declared.refusal.Refusal.TheVariants.{ShortSheet, RowMisplaced, UnknownRow, WrongCells, CellMisplaced, Unreadable, WrongBlank, OutOfRange, Barred, NoReplies, WrongDay, TapeFull, NoStamps, UnknownOrder, ClientNumberTaken, ChangeOfStop, QuantityTraded, DisclosedBarred, DayNotLater}
@@ -25,7 +26,7 @@ refusal_number QuantityTraded = 28
 refusal_number DisclosedBarred = 29
 refusal_number DayNotLater = 30
 
--- the cell that it names, from 1, or 0 where none is to blame
+-- the cell that it names, from 1, or 0 where none is to blame (sheets 6)
 abbrev pub refusal_cell : Refusal → ℕ
 refusal_cell (CellMisplaced cell) = cell
 refusal_cell (Unreadable cell place) = cell
@@ -33,7 +34,7 @@ refusal_cell (WrongBlank cell) = cell
 refusal_cell (OutOfRange cell) = cell
 refusal_cell _ = 0
 
--- the place in the cell, from 1, of the first byte that cannot stand there, or 0
+-- the place in the cell, from 1, of the first byte that cannot stand there, or 0 (sheets 6)
 abbrev pub refusal_place : Refusal → ℕ
 refusal_place (Unreadable cell place) = place
 refusal_place _ = 0

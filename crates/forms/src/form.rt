@@ -1,8 +1,10 @@
 // The forms of the six steps: what is asked of each, cell by cell (rules 1, sheets 5).
 use orders::price::Price;
 
-/// The cells of an entry (rules 8); `None` is a blank cell. Prices are hundredths, quantities are lots.
-// Side, type and validity are numbers as in the published format: whether they name any is checked later, with refusal 8.
+/// The cells of an entry (rules 8); `None` is a blank cell. Prices are hundredths, quantities are
+/// lots.
+// Side, type and validity are numbers as in the published format: whether they name any is checked
+// later, with refusal 8.
 #[derive(Clone, Copy)]
 pub struct EntryForm {
     pub firm: Option<u64>,
@@ -19,7 +21,8 @@ pub struct EntryForm {
     pub tag: Option<u64>,
 }
 
-/// The cells of a change (rules 13): a blank price, quantity, disclosed or validity stays unchanged.
+/// The cells of a change (rules 13): a blank price, quantity, disclosed or validity stays
+/// unchanged.
 #[derive(Clone, Copy)]
 pub struct ChangeForm {
     pub firm: Option<u64>,
@@ -38,7 +41,8 @@ pub struct CancelForm {
     pub number: Option<u64>,
 }
 
-/// The cells of a mass cancel (rules 14): all of the firm's orders and stops that match every filled cell are cancelled.
+/// The cells of a mass cancel (rules 14): all of the firm's orders and stops that match every
+/// filled cell are cancelled.
 #[derive(Clone, Copy)]
 pub struct MassCancelForm {
     pub firm: Option<u64>,

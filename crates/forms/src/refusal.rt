@@ -11,11 +11,12 @@ pub enum Refusal {
     RowMisplaced { row: u16 },
     /// The row has fewer than two bytes, or an unknown letter (3).
     UnknownRow,
-    /// The row has not as many cells as its letter, or is shorter than its directory (4).
+    /// The cell count is not the letter's, or the row is shorter than its directory (4).
     WrongCells,
     /// This cell's pair starts too early, or ends outside the row (5).
     CellMisplaced { cell: u8 },
-    /// This filled cell cannot be read; the place is that of the first byte that cannot stand there (6).
+    /// This filled cell cannot be read; the place is that of the first byte that cannot stand there
+    /// (6).
     Unreadable { cell: u8, place: u8 },
     /// This cell is blank and must be filled, or the other way round (7).
     WrongBlank { cell: u8 },

@@ -5,7 +5,8 @@ use Rattle.std.proofs.lemmas.Bool.{and_parts, leb-true, eqb-true, eq-eqb, ne_eqb
 use Rattle.orders.specs.declared.order.TheConstants.{MOST_LOTS, HIDDEN_PARTS}
 use Rattle.orders.specs.declared.row.OrderRow.{OrderRow}
 
--- all open lots are shown where nothing is disclosed; else at most the disclosed, and at most 15 such parts are hidden (rules 3)
+-- all open lots are shown where nothing is disclosed; else at most the disclosed, and at most 15
+-- such parts are hidden (rules 3)
 abbrev pub shown_in_bounds : (open_lots shown disclosed : ℕ) → Bool
 shown_in_bounds open_lots shown disclosed =
     if disclosed == 0

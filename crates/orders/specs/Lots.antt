@@ -8,7 +8,8 @@ use Rattle.orders.specs.declared.row.OrderRow.{OrderRow}
 use Rattle.orders.specs.Prices.{level}
 use Rattle.orders.specs.Rows.{row_of, order_of}
 
--- what an order shows of so many open lots: the smaller of the two, or all where nothing is disclosed (rules 3)
+-- what an order shows of so many open lots: the smaller of the two, or all where nothing is
+-- disclosed (rules 3)
 abbrev pub showing : (disclosed lots : ℕ) → ℕ
 showing disclosed lots = if disclosed == 0 then lots else min disclosed lots
 

@@ -11,6 +11,7 @@ price_of_hundredths hundredths = record { hundredths = hundredths }
 abbrev pub level : Price → ℕ
 level price = price.hundredths
 
+-- whether two prices are the same
 abbrev pub same_price : Price → Price → Bool
 same_price a b = level a == level b
 

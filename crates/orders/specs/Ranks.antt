@@ -16,6 +16,7 @@ ranks_ahead a b =
     then (if a.turn == b.turn then nat_lt a.number b.number else nat_lt a.turn b.turn)
     else nat_lt a.key b.key
 
+-- whether two ranks are the same: in key, turn and number (rules 4)
 abbrev pub same_rank : Rank → Rank → Bool
 same_rank a b = a.key == b.key && (a.turn == b.turn && a.number == b.number)
 

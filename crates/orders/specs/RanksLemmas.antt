@@ -1,4 +1,5 @@
--- The laws of ranks: nothing ranks ahead of itself, a chain carries, and of two different ranks one is ahead (rules 4).
+-- The laws of ranks: nothing ranks ahead of itself, a chain carries, and of two different ranks one
+-- is ahead (rules 4).
 use Rattle.std.specs.Prelude.{◌≡◌, ◌<◌, true, false, ◌⊎◌}
 use Rattle.std.proofs.Common.{arith}
 use Rattle.std.proofs.lemmas.Bool.Decides.{nat_tests}

@@ -7,7 +7,7 @@ use Rattle.orders.specs.declared.row.OrderRow.{OrderRow}
 use Rattle.orders.specs.declared.row.StopRow.{StopRow}
 use Rattle.orders.specs.Bounds.{keeps_bounds, InBounds, keeps_bounds_facts}
 
--- an order as a row
+-- an order as a row (rules 3)
 abbrev pub row_of : Order → OrderRow
 row_of order = record {
   number = order.number;
@@ -25,7 +25,8 @@ row_of order = record {
   tag = order.tag;
 }
 
--- what is read of a row that keeps the bounds, or does not: quantity, open and shown 1 and disclosed 0 then, the rest as stored
+-- a row as it is read: unchanged where it keeps the bounds; otherwise quantity, open and shown are
+-- 1, disclosed is 0, and the rest is as stored (rules 3)
 abbrev pub sound_row : (keeps : Bool) → OrderRow → OrderRow
 sound_row keeps row = record row {
   quantity = if keeps then row.quantity else 1;
@@ -50,7 +51,8 @@ sound_row_either row false e = record {
 pub sound_row_in_bounds : (row : OrderRow) → InBounds (sound_row (keeps_bounds row) row)
 sound_row_in_bounds row = sound_row_either row (keeps_bounds row) refl
 
--- the order that a row is read as: a choice for each number, so that the numbers that never change compute
+-- the order that a row is read as (rules 3); a choice for each field, so that the fields that never
+-- change compute
 abbrev pub order_of : OrderRow → Order
 order_of row = record {
   number = row.number;
@@ -75,7 +77,7 @@ order_of row = record {
   hidden_within_parts = (sound_row_in_bounds row).hidden_within_parts;
 }
 
--- a stop as a row, and back
+-- a stop as a row, and the stop that a row is read as (rules 3)
 abbrev pub stop_row_of : Stop → StopRow
 stop_row_of stop = record { order = row_of stop.order; trigger = stop.trigger }
 

@@ -6,10 +6,12 @@ use Rattle.orders.specs.declared.side.Validity.{Validity}
 use Rattle.orders.specs.declared.side.Validity.TheVariants.{Day, Gtc, Ioc, Fok}
 use Rattle.orders.specs.declared.side.UnknownCode.{UnknownCode}
 
+-- the other side (rules 1)
 abbrev pub opposite : Side → Side
 opposite Buy = Sell
 opposite Sell = Buy
 
+-- whether two sides are the same
 abbrev pub same_side : Side → Side → Bool
 same_side Buy Buy = true
 same_side Sell Sell = true
@@ -38,6 +40,6 @@ validity_of code =
     if code == 3 then Some Ioc else
     if code == 4 then Some Fok else None
 
--- what is said of a number that names none: the number
+-- the error for a number that names no side or validity: the number itself
 abbrev pub unknown_code : ℕ → UnknownCode
 unknown_code code = record { 0 = code }

@@ -12,7 +12,8 @@ use crate::price::Price;
 use crate::rank::Rank;
 use crate::side::Side;
 
-/// What the derives of `Price`, `Side` and `Rank` mean: equal ones are the same, and the lesser rank is ahead (rules 4).
+/// What the derives of `Price`, `Side` and `Rank` mean: equal ones are the same, and the lesser
+/// rank is ahead (rules 4).
 pub fn derived_as_defined()
     ensures prices { (a b : PriceValue) → ⟦<Price as PartialEq>⟧.eq a b ≡ same_price a b }
     ensures sides { (a b : SideValue) → ⟦<Side as PartialEq>⟧.eq a b ≡ same_side a b }

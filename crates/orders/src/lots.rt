@@ -8,7 +8,8 @@ use crate::price::Price;
 use crate::row::OrderRow;
 use crate::side::Side;
 
-/// What an order shows of so many open lots: the smaller of the two, or all of them where nothing is disclosed (rules 3).
+/// What an order shows of so many open lots: the smaller of the two, or all of them where nothing
+/// is disclosed (rules 3).
 pub fn showing(disclosed: u32, lots: u32) -> u32
     ensures { result ≡ showing disclosed lots }
 {
@@ -30,7 +31,8 @@ pub fn within_limit(side: Side, limit: Price, price: Price) -> bool
 }
 
 impl Order {
-    // The order under a turn, with other open and shown lots; where they are out of bounds, as such a row reads (rules 3).
+    // The order under a turn, with other open and shown lots; where they are out of bounds, as such
+    // a row reads (rules 3).
     fn with_lots(self, turn: u32, open_lots: u32, shown: u32) -> Order
         ensures { result ≡ order_of (with_lots turn open_lots shown self) }
     {
@@ -51,7 +53,8 @@ impl Order {
         self.with_lots(self.turn, open_lots, shown)
     }
 
-    /// A refill: what trading so many lots leaves of an order that then shows anew, under a new turn (rules 10).
+    /// A refill: what trading so many lots leaves of an order that then shows anew, under a new
+    /// turn (rules 10).
     pub fn refilled(self, turn: u32, lots: u32) -> Order
         ensures { result ≡ order_refilled turn lots self }
     {

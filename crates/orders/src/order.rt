@@ -8,11 +8,14 @@ use crate::side::{Side, Validity};
 /// The most lots that an order may ask for (rules 3).
 pub const MOST_LOTS: u32 = 1_000_000;
 
-/// The most parts, each of the disclosed lots, that an order hides behind the one that it shows (rules 3).
+/// The most parts, each of the disclosed lots, that an order hides behind the one that it shows
+/// (rules 3).
 pub const HIDDEN_PARTS: u32 = 15;
 
-/// An order in force, or the order of a stop. Its facts are the bounds of rules 3; `Order::from` makes one of a row.
-// Investor 0 and disclosed 0 are none, as in the published cells: an Option would need a fact that bars Some(0).
+/// An order in force, or the order of a stop. Its facts are the bounds of rules 3; `Order::from`
+/// makes one of a row.
+// Investor 0 and disclosed 0 are none, as in the published cells: an Option would need a fact that
+// bars Some(0).
 #[derive(Clone, Copy)]
 pub struct Order {
     /// The stamp that the order drew when it was accepted; it names the order for good.

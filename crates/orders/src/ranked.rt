@@ -1,4 +1,4 @@
-// What has a number and an owner, and what has a rank besides (rules 4).
+// What has a number and belongs to a firm, and what has a rank besides (rules 4).
 ghost use Rattle.std.specs.Prelude.{◌≡◌, ℕ, true, false};
 ghost use Rattle.orders.specs.declared.rank.Rank.{Rank as RankValue};
 ghost use Rattle.orders.specs.Ranks.{ranks_ahead, order_key, order_rank, stop_rank};
@@ -27,7 +27,8 @@ pub trait Numbered {
         ensures { result ≡ client self.now };
 }
 
-/// What has a rank. Nothing ranks ahead of itself, ranking ahead carries along a chain, and of two different ranks one is ahead (rules 4).
+/// What has a rank. Nothing ranks ahead of itself, ranking ahead carries along a chain, and of two
+/// different ranks one is ahead (rules 4).
 pub trait Ranked: Numbered {
     ghost rank: { Self → RankValue };
 
@@ -47,7 +48,8 @@ pub trait Ranked: Numbered {
         rank a ≡ rank b };
 }
 
-// The key of an order by its limit. A stop has the key that an order of the other side has at its trigger.
+// The key of an order by its limit. A stop has the key that an order of the other side has at its
+// trigger.
 fn key(side: Side, price: Price) -> u32
     ensures { result ≡ order_key side price }
 {

@@ -7,7 +7,8 @@ use crate::order::{HIDDEN_PARTS, MOST_LOTS, Order, Stop};
 use crate::price::Price;
 use crate::side::{Side, Validity};
 
-/// The fields of an order as stored. A row in a slice that a caller lends may be out of bounds, and an `Order` cannot be.
+/// The fields of an order as stored. A row in a slice that a caller lends may be out of bounds, and
+/// an `Order` cannot be.
 #[derive(Clone, Copy)]
 pub struct OrderRow {
     pub number: u32,
@@ -46,7 +47,8 @@ impl OrderRow {
                 <= u64::from(self.shown) + u64::from(HIDDEN_PARTS) * u64::from(self.disclosed)
     }
 
-    // The row itself within the bounds; out of bounds one lot, all of it shown, and the rest as stored.
+    // The row itself within the bounds; out of bounds one lot, all of it shown, and the rest as
+    // stored.
     #[inline(always)]
     fn sound(self) -> OrderRow
         ensures value { result ≡ sound_row (keeps_bounds self) self }
@@ -88,7 +90,8 @@ impl From<Order> for OrderRow {
     }
 }
 
-/// The order that a row is read as: of a row out of bounds, one with one lot, all of it shown (rules 3).
+/// The order that a row is read as: of a row out of bounds, one with one lot, all of it shown
+/// (rules 3).
 impl From<OrderRow> for Order {
     ghost from_gives = { λ row order. order ≡ order_of row };
 
@@ -114,7 +117,8 @@ impl From<OrderRow> for Order {
 }
 
 /// The fields of a stop as stored.
-// Not one type with Stop: a `Stop<O>` would turn Stop into `Stop Order` in every definition that names it.
+// Not one type with Stop: a `Stop<O>` would turn Stop into `Stop Order` in every definition that
+// names it.
 #[derive(Clone, Copy)]
 pub struct StopRow {
     pub order: OrderRow,
@@ -133,7 +137,7 @@ impl From<Stop> for StopRow {
     }
 }
 
-/// The stop that a row is read as; its order as that of its own row.
+/// The stop that a row is read as: its order as that of an order's row, and its trigger.
 impl From<StopRow> for Stop {
     ghost from_gives = { λ row stop. stop ≡ stop_of row };
 

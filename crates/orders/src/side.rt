@@ -10,8 +10,8 @@ pub enum Side {
     Sell,
 }
 
-/// How long an order is in force: until closing (Day, 0), until it is cancelled (GTC, 1), only for what trades at once (IOC, 3),
-/// or only where the whole of it trades at once (FOK, 4).
+/// How long an order is in force: until closing (Day, 0), until it is cancelled (GTC, 1), only for
+/// what trades at once (IOC, 3), or only where the whole of it trades at once (FOK, 4).
 #[derive(Clone, Copy, Debug, PartialEq, Eq)]
 pub enum Validity {
     Day,

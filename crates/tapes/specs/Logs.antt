@@ -15,7 +15,7 @@ empty_log limit = record { lines = []; limit = limit }
 abbrev pub free_lines : Log → ℕ
 free_lines log = log.limit - length log.lines
 
--- one line more, or the same where the tape is full
+-- one line more, or the same where the tape is full (rules 1)
 abbrev pub line_added : Line → Log → Log
 line_added line log =
     record log {

@@ -18,7 +18,7 @@ pub enum Line {
         limit: Price,
         quantity: u32,
     },
-    /// S: a stop fired; it came into force with these open lots.
+    /// S: a stop triggered; it came into force with these open lots.
     Triggered {
         number: u32,
         limit: Price,

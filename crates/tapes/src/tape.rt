@@ -6,7 +6,8 @@ use crate::line::Line;
 use std::alloc::{AllocError, Global};
 use std::marker::Model;
 
-/// The lines written so far, at most `limit`; memory for all of them is there from the start. In a clause a tape is its `Log`.
+/// The lines written so far, at most `limit`; memory for all of them is there from the start. In a
+/// clause a tape is its `Log`.
 // Not one type with the list of replies, to which only a slip adds.
 #[derive(Drop)]
 pub struct Tape {
