@@ -1,4 +1,5 @@
--- What a book means: four queues of fixed capacity, and what each call answers and leaves (rules 5).
+-- What a book means: four queues of fixed capacity, and what each call answers and leaves
+-- (rules 5).
 use Rattle.std.specs.Prelude.{ℕ, ◌≤◌, ◌==◌, ◌&&◌, Bool, List, [], length, map, is_some, Some, None, Option, Result, Ok, Err, ⊤, nat_lt, slice_set, if◌then◌else◌}
 use Rattle.std.specs.List.{remove, slice_get, list_any}
 use Rattle.std.specs.Option.{option_map, option_or}
@@ -52,10 +53,12 @@ abbrev pub queue_of : Record → Queue
 queue_of (Standing order) = Orders order.side
 queue_of (Waiting stop) = Stops stop.order.side
 
+-- the number of a record (rules 1)
 abbrev pub number_of : Record → ℕ
 number_of (Standing order) = order.number
 number_of (Waiting stop) = stop.order.number
 
+-- how an order ranks, and how a stop ranks (rules 4)
 abbrev pub rank_of : Order → Rank
 rank_of order = order_rank (row_of order)
 
@@ -81,12 +84,12 @@ pub record Bounded (queues : Queues) : Type 0 where
   pub count_within : (queue : Queue) → count queue queues ≤ capacity queue queues
   pub capacity_within : (queue : Queue) → capacity queue queues ≤ MOST_RECORDS
 
--- look: the record at a place of a queue (rules 5)
+-- look: the record at a position of a queue (rules 5)
 abbrev pub look_at : Queue → (index : ℕ) → Queues → Option Record
 look_at (Orders side) index queues = option_map Standing (slice_get (at side queues.stands) index)
 look_at (Stops side) index queues = option_map Waiting (slice_get (at side queues.waits) index)
 
--- find: queue and place of the first record with a number, in the order of the queues (rules 5)
+-- find: queue and position of the first record with a number, in the order of the queues (rules 5)
 abbrev pub found : (number : ℕ) → Queues → Option (Queue × ℕ)
 found number queues =
     let order_at = index_of_number (λ (order : Order). order.number) number in
@@ -107,7 +110,7 @@ put_answer «record» queues =
     then (if is_some (found (number_of «record») queues) then Err Twice else Ok tt)
     else Err Full
 
--- a record put into its queue by rank
+-- a record put into its queue by rank (rules 5)
 abbrev pub inserted : Record → Queues → Queues
 inserted (Standing order) queues =
     with_stands order.side (put_by_rank rank_of order (at order.side queues.stands)) queues
@@ -120,7 +123,7 @@ abbrev pub after_put : PutAnswer → Record → Queues → Queues
 after_put (Ok _) «record» queues = inserted «record» queues
 after_put (Err _) «record» queues = queues
 
--- what a take leaves: the record at a place of a queue is removed (rules 5)
+-- what a take leaves: the record at a position of a queue is removed (rules 5)
 abbrev pub taken : Queue → (index : ℕ) → Queues → Queues
 taken (Orders side) index queues = with_stands side (remove (at side queues.stands) index) queues
 taken (Stops side) index queues = with_waits side (remove (at side queues.waits) index) queues
@@ -132,14 +135,15 @@ cleared queues = record queues {
   waits = record { buy = []; sell = [] };
 }
 
--- whether a record may be rewritten: it has the rank, and with it the number, of the one at the place (rules 5)
+-- whether a record may be rewritten: it has the rank, and with it the number, of the one at the
+-- position (rules 5)
 abbrev pub rewrite_allowed : (index : ℕ) → Record → Queues → Bool
 rewrite_allowed index (Standing order) queues =
     swap_allowed rank_of index order (at order.side queues.stands)
 rewrite_allowed index (Waiting stop) queues =
     swap_allowed stop_rank_of index stop (at stop.order.side queues.waits)
 
--- a record in a place of its queue
+-- a record at a position of its queue, for the one there
 abbrev pub record_set : (index : ℕ) → Record → Queues → Queues
 record_set index (Standing order) queues =
     with_stands order.side (slice_set (at order.side queues.stands) index order) queues

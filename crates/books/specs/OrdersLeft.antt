@@ -1,4 +1,4 @@
--- What is left of a walk along a queue.
+-- What an iterator over the orders of a queue has still to give.
 use Rattle.std.specs.Prelude.{List, drop}
 use Rattle.orders.specs.declared.order.Order.{Order}
 use Rattle.books.specs.declared.orders_of.OrdersOf.{OrdersOf}

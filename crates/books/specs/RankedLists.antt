@@ -4,7 +4,7 @@ use Rattle.std.specs.List.{slice_get, prefix_len, insert}
 use Rattle.orders.specs.declared.rank.Rank.{Rank}
 use Rattle.orders.specs.Ranks.{ranks_ahead, same_rank}
 
--- the place of the first that a rank is ahead of, or the end
+-- the position of the first that a rank is ahead of, or the end (rules 5)
 abbrev pub rank_index : {X : Type 0} → (X → Rank) → Rank → List X → ℕ
 rank_index rank_of rank xs = prefix_len (λ x. not (ranks_ahead rank (rank_of x))) xs
 
@@ -16,21 +16,22 @@ put_by_rank rank_of x xs = insert xs (rank_index rank_of (rank_of x) xs) x
 abbrev pub before_number : {X : Type 0} → (X → ℕ) → ℕ → List X → ℕ
 before_number number_of number xs = prefix_len (λ x. not (number_of x == number)) xs
 
--- the place of the first with a number
+-- the position of the first with a number (rules 5)
 abbrev pub index_of_number : {X : Type 0} → (X → ℕ) → ℕ → List X → Option ℕ
 index_of_number number_of number xs =
     let index = before_number number_of number xs in
     if nat_lt index (length xs) then Some index else None
 
--- whether what is at a place, if anything, has the rank of x
+-- whether what is at a position, if anything, has the rank of x
 abbrev pub ranks_as : {X : Type 0} → (X → Rank) → X → Option X → Bool
 ranks_as rank_of x None = false
 ranks_as rank_of x (Some y) = same_rank (rank_of y) (rank_of x)
 
--- whether x may be swapped for what is at a place: it has the same rank, and with it the same number (rules 5)
+-- whether x may be swapped for what is at a position: it has the same rank, and with it the same
+-- number (rules 5)
 abbrev pub swap_allowed : {X : Type 0} → (X → Rank) → (index : ℕ) → X → List X → Bool
 swap_allowed rank_of index x xs = ranks_as rank_of x (slice_get xs index)
 
--- x in place of what is there, where it may be swapped for it
+-- x for what is at a position, where it may be swapped for it (rules 5)
 abbrev pub swapped : {X : Type 0} → (X → Rank) → (index : ℕ) → X → List X → List X
 swapped rank_of index x xs = if swap_allowed rank_of index x xs then slice_set xs index x else xs

@@ -1,4 +1,5 @@
--- What a book of four stores means: the queues of the orders and stops that its rows are read as (rules 5).
+-- What a book of four stores means: the queues of the orders and stops that its rows are read as
+-- (rules 5).
 use Rattle.std.specs.Prelude.{ℕ, []}
 use Rattle.orders.specs.Rows.{order_of, stop_of}
 use Rattle.orders.specs.declared.row.OrderRow.{OrderRow}

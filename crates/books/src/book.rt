@@ -7,7 +7,8 @@ use crate::queue::{PutError, Queue, Record};
 /// The most records that a queue can hold (rules 5).
 pub const MOST_RECORDS: usize = 1_000_000;
 
-/// A book: four queues of records, each in rank order and of fixed capacity (rules 5). Places count from 0.
+/// A book: four queues of records, each in rank order and of fixed capacity (rules 5). Positions
+/// count from 0.
 pub trait Book {
     /// What the book means.
     ghost queues: { Self → Queues };
@@ -16,27 +17,29 @@ pub trait Book {
     fn size(&self, queue: Queue) -> (usize, usize)
         ensures { result ≡ (count queue (queues self.now), capacity queue (queues self.now)) };
 
-    /// The record at a place, or none past the end.
+    /// The record at a position, or none past the end.
     fn look(&self, queue: Queue, index: usize) -> Option<Record>
         ensures { result ≡ look_at queue index (queues self.now) };
 
-    /// Queue and place of the first record with a number, looked for through the four queues in their order.
+    /// Queue and position of the first record with a number, looked for through the four queues in
+    /// their order.
     fn find(&self, number: u32) -> Option<(Queue, usize)>
         ensures { result ≡ found number (queues self.now) };
 
-    /// Put: the record joins its queue, before the first that ranks behind it, or last. Nothing changes where it is refused.
+    /// Put: the record joins its queue, before the first that ranks behind it, or last. Nothing
+    /// changes where it is refused.
     fn put(&mut self, record: Record) -> Result<(), PutError>
         ensures answer { result ≡ put_answer «record» (queues self.old) }
         ensures state { queues self.new ≡ after_put result «record» (queues self.old) };
 
-    /// Rewrite: the record at a place of its queue is swapped for one of the same number and rank; false where it is not, and then nothing
-    /// changes.
+    /// Rewrite: the record at a position of its queue is swapped for one of the same number and
+    /// rank; false where it is refused, and then nothing changes.
     // A bool: there is one reason to refuse.
     fn rewrite(&mut self, index: usize, record: Record) -> bool
         ensures answer { result ≡ rewrite_allowed index «record» (queues self.old) }
         ensures state { queues self.new ≡ rewritten index «record» (queues self.old) };
 
-    /// Take: the record at a place leaves its queue and is the answer; none past the end.
+    /// Take: the record at a position leaves its queue and is the answer; none past the end.
     fn take(&mut self, queue: Queue, index: usize) -> Option<Record>
         ensures answer { result ≡ look_at queue index (queues self.old) }
         ensures state { queues self.new ≡ taken queue index (queues self.old) };
@@ -45,7 +48,8 @@ pub trait Book {
     fn clear(&mut self)
         ensures { queues self.new ≡ cleared (queues self.old) };
 
-    /// Whether a queue may have a firm's client number. Not one of the seven functions: a book that keeps no account of them answers true.
+    /// Whether a queue may have a firm's client number. Not one of the seven functions: a book that
+    /// keeps no account of them answers true.
     fn may_have_client(&self, queue: Queue, firm: u16, client: u32) -> bool
         ensures { holds_client firm client queue (queues self.now) ≡ true → result ≡ true }
     {

@@ -9,7 +9,8 @@ use crate::book::{Book, MOST_RECORDS};
 use crate::queue::Queue;
 use orders::order::Order;
 
-/// An iterator over the orders of a queue from a place on; of a stop, the order that it would bring into force.
+/// An iterator over the orders of a queue from a position on; of a stop, the order that it would
+/// bring into force.
 #[derive(Drop)]
 pub struct OrdersOf<'a, B> {
     book: &'a B,
@@ -29,7 +30,7 @@ pub fn orders_in<B: Book>(book: &B, queue: Queue) -> OrdersOf<'_, B>
     }
 }
 
-// The order at a place of a queue, or that of the stop there.
+// The order at a position of a queue, or that of the stop there.
 #[inline(always)]
 fn order_at<B: Book>(book: &B, queue: Queue, index: usize) -> Option<Order>
     ensures { result ≡ slice_get (orders_in queue (B.queues book.now)) index }

@@ -18,14 +18,16 @@ pub enum Queue {
     Stops(Side),
 }
 
-/// A record of a book: an order that stands, which is in force and rests in its queue, or a stop that waits for its trigger.
+/// A record of a book: an order that stands, which is in force and rests in its queue, or a stop
+/// that waits for its trigger.
 #[derive(Clone, Copy)]
 pub enum Record {
     Standing(Order),
     Waiting(Stop),
 }
 
-/// Why a put is refused: the record's queue is at its capacity, or else its number is in the book already.
+/// Why a put is refused: the record's queue is at its capacity, or else its number is in the book
+/// already.
 #[derive(Clone, Copy, Debug, PartialEq, Eq)]
 pub enum PutError {
     Full,

@@ -7,8 +7,9 @@ ghost use Rattle.books.specs.Contents.{Contents};
 
 use orders::ranked::Ranked;
 
-/// A store of the rows of one queue, with a fixed capacity. Places count from 0.
-// Rows and capacity are two clauses: `Contents` holds proofs of its bounds, and one equation would have to equate these too.
+/// A store of the rows of one queue, with a fixed capacity. Positions count from 0 (rules 1).
+// Rows and capacity are two clauses: `Contents` holds proofs of its bounds, and one equation would
+// have to equate these too.
 pub trait QueueStore {
     /// A stored row: an order or a stop as plain fields.
     type Row: Ranked;
@@ -20,16 +21,17 @@ pub trait QueueStore {
     fn size(&self) -> (usize, usize)
         ensures { result ≡ (length (contents self.now).rows, (contents self.now).capacity) };
 
-    /// The row at a place, or none past the end.
+    /// The row at a position, or none past the end.
     fn look(&self, index: usize) -> Option<Self::Row>
         ensures { result ≡ slice_get (contents self.now).rows index };
 
-    /// The place of the first row with a number.
+    /// The position of the first row with a number.
     fn find(&self, number: u32) -> Option<usize>
         ensures { result ≡
             index_of_number Self.Row.Numbered.number number (contents self.now).rows };
 
-    /// Puts a row before the first that ranks behind it, or last; false where the store is full, and nothing changes then.
+    /// Puts a row before the first that ranks behind it, or last; false where the store is full,
+    /// and nothing changes then.
     // A bool: there is one reason to refuse.
     fn put(&mut self, row: Self::Row) -> bool
         ensures answer { result ≡
@@ -40,18 +42,19 @@ pub trait QueueStore {
             else (contents self.old).rows) }
         ensures unchanged { (contents self.new).capacity ≡ (contents self.old).capacity };
 
-    /// Puts another row in a place; past the end nothing changes.
+    /// Puts another row at a position, for the one there; past the end nothing changes.
     fn replace(&mut self, index: usize, row: Self::Row)
         ensures state { (contents self.new).rows ≡ slice_set (contents self.old).rows index row }
         ensures unchanged { (contents self.new).capacity ≡ (contents self.old).capacity };
 
-    /// The row at a place leaves the store and is the answer; none past the end.
+    /// The row at a position leaves the store and is the answer; none past the end.
     fn take(&mut self, index: usize) -> Option<Self::Row>
         ensures answer { result ≡ slice_get (contents self.old).rows index }
         ensures state { (contents self.new).rows ≡ remove (contents self.old).rows index }
         ensures unchanged { (contents self.new).capacity ≡ (contents self.old).capacity };
 
-    /// Whether a row may have a firm's client number; a store that keeps no account of them answers true.
+    /// Whether a row may have a firm's client number; a store that keeps no account of them answers
+    /// true.
     fn may_have_client(&self, firm: u16, client: u32) -> bool
         ensures { let has =
             has_client Self.Row.Numbered.firm Self.Row.Numbered.client firm client in

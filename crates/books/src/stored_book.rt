@@ -11,7 +11,8 @@ use orders::ranked::Numbered;
 use orders::row::{OrderRow, StopRow};
 use orders::side::Side;
 
-/// Bids, offers, buy stops and sell stops, each in a store of its own. It means the orders and stops that the stored rows are read as.
+/// Bids, offers, buy stops and sell stops, each in a store of its own. It means the orders and
+/// stops that the stored rows are read as.
 #[derive(Drop)]
 pub struct StoredBook<O, S> {
     pub bids: O,
@@ -20,7 +21,8 @@ pub struct StoredBook<O, S> {
     pub sells: S,
 }
 
-// An arm for each queue: a function that picked the store would lend it, and would need a clause on what the loan leaves.
+// An arm for each queue: a function that picked the store would lend it, and would need a clause on
+// what the loan leaves.
 impl<O: QueueStore<Row = OrderRow>, S: QueueStore<Row = StopRow>> Book for StoredBook<O, S> {
     ghost queues = { stored_queues O.QueueStore.contents S.QueueStore.contents };
 

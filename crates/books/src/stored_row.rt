@@ -13,7 +13,8 @@ use orders::order::{Order, Stop};
 use orders::ranked::Ranked;
 use orders::row::{OrderRow, StopRow};
 
-/// A stored row, and the item that it is read as: an order or a stop. An item that is stored reads back, and has its row's rank and number.
+/// A stored row, and the item that it is read as: an order or a stop. An item that is stored reads
+/// back, and has its row's rank and number.
 // Both ways are those of From; the trait has them so that its laws are about them.
 pub trait StoredRow: Ranked {
     type Item;
@@ -101,7 +102,7 @@ pub fn size_of<T: StoredRow, L: QueueStore<Row = T>>(store: &L) -> (usize, usize
     store.size()
 }
 
-/// The item at a place of a store.
+/// The item at a position of a store.
 #[inline(always)]
 pub fn item_at<T: StoredRow, L: QueueStore<Row = T>>(store: &L, index: usize) -> Option<T::Item>
     ensures { let items = stored_items T.StoredRow.item L.QueueStore.contents store.now in
@@ -110,7 +111,7 @@ pub fn item_at<T: StoredRow, L: QueueStore<Row = T>>(store: &L, index: usize) ->
     store.look(index).map(|row| row.item())
 }
 
-/// The place of the first item of a store with a number.
+/// The position of the first item of a store with a number.
 pub fn find_item<T: StoredRow, L: QueueStore<Row = T>>(store: &L, number: u32) -> Option<usize>
     ensures { let items = stored_items T.StoredRow.item L.QueueStore.contents store.now in
         result ≡ index_of_number T.StoredRow.item_number number items }
@@ -118,7 +119,8 @@ pub fn find_item<T: StoredRow, L: QueueStore<Row = T>>(store: &L, number: u32) -
     store.find(number)
 }
 
-/// Puts an item into a store, before the first that ranks behind it, or last; false where the store is full.
+/// Puts an item into a store, before the first that ranks behind it, or last; false where the store
+/// is full.
 pub fn put_item<T: StoredRow, L: QueueStore<Row = T>>(store: &mut L, item: T::Item) -> bool
     ensures answer { let before = stored_items T.StoredRow.item L.QueueStore.contents store.old in
         result ≡ nat_lt (length before) (L.QueueStore.contents store.old).capacity }
@@ -131,7 +133,7 @@ pub fn put_item<T: StoredRow, L: QueueStore<Row = T>>(store: &mut L, item: T::It
     store.put(T::from_item(item))
 }
 
-/// The item at a place leaves the store and is the answer.
+/// The item at a position leaves the store and is the answer.
 pub fn take_item<T: StoredRow, L: QueueStore<Row = T>>(
     store: &mut L,
     index: usize,
@@ -153,7 +155,8 @@ pub fn ranks_as<T: Ranked + Copy>(answer: Option<T>, row: T) -> bool
     answer.is_some_and(|present| present.rank() == row.rank())
 }
 
-/// Swaps the item at a place for one of the same rank and number; false where it has another, or none is there.
+/// Swaps the item at a position for one of the same rank and number; false where another is there,
+/// or none.
 pub fn swap_item<T: StoredRow + Copy, L: QueueStore<Row = T>>(
     store: &mut L,
     index: usize,

@@ -1,4 +1,5 @@
--- What a front card means: the queues of the book below, with the held records for first ones of their number and rank (rules 5).
+-- What a front card means: the queues of the book below, with the held records for first ones of
+-- their number and rank (rules 5).
 use Rattle.std.specs.Option.{option_map}
 use Rattle.orders.specs.Rows.{order_of, stop_of}
 use Rattle.books.specs.Model.{Queues}
@@ -12,6 +13,6 @@ held_by card = record {
   stops = record { buy = option_map stop_of card.buy; sell = option_map stop_of card.sell };
 }
 
--- the queues, given what the book below means
+-- the queues of a front card, given what the book below means (rules 5)
 abbrev pub card_queues : {B : Type 0} → (B → Queues) → FrontCard B → Queues
 card_queues queues card = covered (held_by card) (queues card.below)

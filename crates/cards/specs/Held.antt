@@ -1,4 +1,5 @@
--- Held records, one for each queue at most, and queues with them in place of their first ones (rules 5).
+-- Held records, one for each queue at most, and queues with them in place of their first ones
+-- (rules 5).
 use Rattle.std.specs.Prelude.{ℕ, Bool, false, List, Some, None, Option, if◌then◌else◌}
 use Rattle.std.specs.Option.{option_map}
 use Rattle.orders.specs.declared.order.Order.{Order}
@@ -12,7 +13,7 @@ use Rattle.books.specs.declared.queue.Queue.TheVariants.{Orders, Stops}
 use Rattle.books.specs.declared.queue.Record.{Record}
 use Rattle.books.specs.declared.queue.Record.TheVariants.{Standing, Waiting}
 
--- the record that is held for each queue: the latest rewrite of its first record
+-- the record that is held for each queue, if any: the latest rewrite of its first record (rules 5)
 pub record Held : Type 0 where
   pub orders : Both (Option Order)
   pub stops : Both (Option Stop)

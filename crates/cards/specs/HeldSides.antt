@@ -5,10 +5,12 @@ use Rattle.orders.specs.declared.row.OrderRow.{OrderRow}
 use Rattle.orders.specs.declared.row.StopRow.{StopRow}
 use Rattle.orders.specs.Sides.{same_side}
 
+-- whether a held order's row, if there is one, is of a side
 abbrev pub order_side : Side → Option OrderRow → Bool
 order_side side None = true
 order_side side (Some row) = same_side side row.side
 
+-- whether a held stop's row, if there is one, is of a side
 abbrev pub stop_side : Side → Option StopRow → Bool
 stop_side side None = true
 stop_side side (Some row) = same_side side row.order.side

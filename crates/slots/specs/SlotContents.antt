@@ -23,7 +23,7 @@ pub record IsSlotOfIndex {X : Type 0} (slots : List (Option X)) (index slot : �
   pub taken : is_some (slice_index_or slots slot None) ≡ true
   pub count_before : length (slot_rows (take slot slots)) ≡ index
 
--- the slot of the row at a place, if there is one
+-- the slot of the row at a position, if there is one
 abbrev pub SlotOfIndex : {X : Type 0} → List (Option X) → (index : ℕ) → Option ℕ → Type 0
 SlotOfIndex slots index (Some slot) = IsSlotOfIndex slots index slot
 SlotOfIndex slots index None = length (slot_rows slots) ≤ index
@@ -38,7 +38,7 @@ abbrev pub FreeSlot : {X : Type 0} → List (Option X) → Option ℕ → Type 0
 FreeSlot slots (Some slot) = IsFreeSlot slots slot
 FreeSlot slots None = length (slot_rows slots) ≡ length slots
 
--- what a store means: the rows of its slots, of which it has 32
+-- what a store means: the rows of its slots, of which it has 32 (rules 5)
 abbrev pub slot_contents : {X : Type 0} → List (Option X) → Contents X
 slot_contents slots = record {
   rows = take SLOTS (slot_rows slots);

@@ -7,6 +7,7 @@ use Rattle.books.specs.StoredQueues.{stored_queues}
 use Rattle.slots.specs.declared.store.SlotStore.{SlotStore}
 use Rattle.slots.specs.SlotContents.{slot_contents}
 
+-- the queues of a slot book (rules 5)
 abbrev pub slot_queues : StoredBook (SlotStore OrderRow) (SlotStore StopRow) → Queues
 slot_queues =
     stored_queues (λ store. slot_contents store.slots) (λ store. slot_contents store.slots)

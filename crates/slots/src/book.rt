@@ -7,7 +7,8 @@ use crate::store::{SLOTS, SlotStore};
 use books::stored_book::StoredBook;
 use orders::row::{OrderRow, StopRow};
 
-/// A book whose four stores have 32 slots each. In which slot a row is stored is the program's own choice.
+/// A book whose four stores have 32 slots each. In which slot a row is stored is the program's own
+/// choice.
 pub type SlotBook = StoredBook<SlotStore<OrderRow>, SlotStore<StopRow>>;
 
 /// An empty slot book.

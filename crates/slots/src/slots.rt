@@ -15,7 +15,7 @@ pub fn count_in<T: Copy>(slots: &[Option<T>]) -> usize
     slots.iter().filter_map(|slot| *slot).count()
 }
 
-// The slot of the row at a place.
+// The slot of the row at a position.
 pub fn slot_of<T: Copy>(slots: &[Option<T>], index: usize) -> Option<usize>
     ensures { SlotOfIndex slots.now index result }
 {
@@ -26,14 +26,14 @@ pub fn slot_of<T: Copy>(slots: &[Option<T>], index: usize) -> Option<usize>
         .nth(index)
 }
 
-// The row at a place: one is copied, and not those before it.
+// The row at a position: one is copied, and not those before it.
 pub fn look_in<T: Copy>(slots: &[Option<T>], index: usize) -> Option<T>
     ensures { result ≡ slice_get (slot_rows slots.now) index }
 {
     slots[slot_of(slots, index)?]
 }
 
-// The place of the first row with a number.
+// The position of the first row with a number.
 pub fn find_in<T: Ranked + Copy>(slots: &[Option<T>], number: u32) -> Option<usize>
     ensures { result ≡ index_of_number T.Numbered.number number (slot_rows slots.now) }
 {
@@ -54,8 +54,8 @@ pub fn has_client_in<T: Ranked + Copy>(slots: &[Option<T>], firm: u16, client: u
         .any(|row| row.firm() == firm && row.client() == client)
 }
 
-// Where a row of a rank belongs, as the count of slots before it: behind the rows that the rank is not ahead of, in the middle of the free
-// slots there.
+// Where a row of a rank belongs, as the count of slots before it: behind the rows that the rank is
+// not ahead of, in the middle of the free slots there.
 pub fn gap_of<T: Ranked + Copy>(slots: &[Option<T>], rank: Rank) -> usize
     ensures answer { length (slot_rows (take result slots.now)) ≡
         rank_index T.Ranked.rank rank (slot_rows slots.now) }

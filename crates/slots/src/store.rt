@@ -11,7 +11,8 @@ use orders::ranked::Ranked;
 /// How many slots a store has: the capacity of a queue of the slot book.
 pub const SLOTS: usize = 32;
 
-/// Slots, each free or taken by a stored row. A put takes a free slot near the place, so that few rows move.
+/// Slots, each free or taken by a stored row. A put takes a free slot near where the row belongs,
+/// so that few rows move.
 #[derive(Drop)]
 pub struct SlotStore<T> {
     slots: [Option<T>; SLOTS],

@@ -4,7 +4,8 @@ use Rattle.std.specs.List.{list_all}
 use Rattle.strips.specs.declared.highest.HighestNumbers.{HighestNumbers}
 use Rattle.strips.specs.declared.highest.TheConstants.{CLASSES}
 
--- a row's number is not above the highest, nor its client number above the highest of its firm's class
+-- a row's number is not above the highest, nor its client number above the highest of its firm's
+-- class
 abbrev pub not_above : {X : Type 0} →
     (number_of firm_of client_of : X → ℕ) → HighestNumbers → X → Bool
 not_above number_of firm_of client_of highest row =

@@ -1,4 +1,5 @@
--- What a strip means: its rows are the first `count` of its slice, of which a million places at most are used (rules 5).
+-- What a strip means: its rows are the first `count` of its slice, of which a million at most are
+-- used (rules 5).
 use Rattle.std.specs.Prelude.{ℕ, ◌≤◌, min, List, length}
 use Rattle.std.proofs.Common.{arith}
 use Rattle.std.proofs.lemmas.List.{length-take, length-reverse}
@@ -20,6 +21,7 @@ ranked_within count xs = rw length-reverse (front_within count MOST_RECORDS xs)
 abbrev pub slice_len : {X : Type 0} {n : Ghosts X} → RankedRow X n → ℕ
 slice_len strip = length strip.rows.now
 
+-- the rows of a strip in rank order, and its capacity (rules 5)
 abbrev pub strip_contents : {X : Type 0} {n : Ghosts X} → RankedRow X n → Contents X
 strip_contents strip = record {
   rows = ranked strip.count strip.rows.now;

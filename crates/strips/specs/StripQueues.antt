@@ -8,6 +8,7 @@ use Rattle.books.specs.StoredQueues.{stored_queues}
 use Rattle.strips.specs.declared.row.RankedRow.{RankedRow}
 use Rattle.strips.specs.StripContents.{strip_contents}
 
+-- the queues of a strip book (rules 5)
 abbrev pub strip_queues : {n : Ghosts OrderRow} {m : Ghosts StopRow} →
     StoredBook (RankedRow OrderRow n) (RankedRow StopRow m) → Queues
 strip_queues = stored_queues strip_contents strip_contents

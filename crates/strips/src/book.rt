@@ -11,7 +11,8 @@ use orders::row::{OrderRow, StopRow};
 /// A book whose four stores are strips: slices of rows that the caller lends. It allocates nothing.
 pub type StripBook<'a> = StoredBook<RankedRow<'a, OrderRow>, RankedRow<'a, StopRow>>;
 
-/// An empty book over four strips, whatever is in them. A strip's length, a million at most, is its queue's capacity.
+/// An empty book over four strips, whatever is in them. A strip's length, a million at most, is its
+/// queue's capacity.
 pub fn strip_book<'a>(
     bids: &'a mut [OrderRow],
     offers: &'a mut [OrderRow],

@@ -4,10 +4,12 @@ ghost use Rattle.strips.specs.Highest.{not_above};
 
 use orders::ranked::Numbered;
 
-// Firms fall into classes by the rest of their number, so that each of a few firms may number its orders in its own way.
+// Firms fall into classes by their number modulo 16, so that a few firms with client numbers of
+// very different size do not share one highest.
 const CLASSES: usize = 16;
 
-// The highest order number, and for each class of firms the highest client number. A row that leaves lowers none of them.
+// The highest order number, and for each class of firms the highest client number. A row that
+// leaves lowers none of them.
 #[derive(Clone, Copy)]
 pub(crate) struct HighestNumbers {
     number: u32,

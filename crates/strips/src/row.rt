@@ -9,7 +9,8 @@ mod store;
 use crate::highest::HighestNumbers;
 use orders::ranked::Numbered;
 
-/// A strip: the store of a queue whose rows are the first `count` of a lent slice, the first in rank at their end (rules 5).
+/// A strip: the store of a queue whose rows are the first `count` of a lent slice, the first in
+/// rank at their end (rules 5).
 // The count is a field beside the slice, since who borrows a slice cannot make it shorter.
 #[derive(Drop)]
 pub struct RankedRow<'a, T: Numbered> {

@@ -12,7 +12,7 @@ use books::queue::{PutError, Queue, Record};
 use books::stored_row::ranks_as;
 
 impl<B: Book> FrontCard<B> {
-    /// A front card on a book, which holds nothing yet.
+    /// A front card above a book; it holds nothing yet.
     pub fn over(below: B) -> FrontCard<B>
         ensures { card_queues B.Book.queues result ≡ B.Book.queues below }
     {
@@ -90,7 +90,8 @@ impl<B: Book> Book for FrontCard<B> {
         self.below.put(record)
     }
 
-    // Besides what the trait asks: a rewrite of a queue's first record leaves the book below unchanged.
+    // Besides what the trait asks: a rewrite of a queue's first record leaves the book below
+    // unchanged.
     fn rewrite(&mut self, index: usize, record: Record) -> bool
         ensures answer { result ≡
             rewrite_allowed index «record» (card_queues B.Book.queues self.old) }

@@ -31,7 +31,8 @@ impl<'a, T: Ranked + Copy> RankedRow<'a, T> {
         MOST_RECORDS.min(self.rows.len())
     }
 
-    // How many rows the strip has: its count, cut to the capacity, so that the strip needs no fact about the length of its slice.
+    // How many rows the strip has: its count, cut to the capacity, so that the strip needs no fact
+    // about the length of its slice.
     fn used(&self) -> usize
         ensures answer { result ≡ length (strip_contents self.now).rows }
         ensures within { result ≤ slice_len self.now }
