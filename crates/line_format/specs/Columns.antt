@@ -27,7 +27,7 @@ columns MassCancel =
 columns Closing = []
 columns Opening = (codes "day", Number) ∷ []
 
--- the first column of a name; their places count from k
+-- the first column of a name; the columns count from k
 abbrev pub column_named : (k : ℕ) → List (List ℕ × CellKind) → (name : List ℕ) → Option Column
 column_named k [] name = None
 column_named k (column ∷ rest) name =

@@ -19,7 +19,7 @@ Values = List (Option Value)
 abbrev pub blank_cells : Values
 blank_cells = replicate MOST_CELLS None
 
--- a cell is filled once, by a value that can be read; k is its place, `old` what it has (lines 1)
+-- a cell is filled once, by a value that can be read; k is its index, `old` what it has (lines 1)
 abbrev pub fill_cell : (k : ℕ) → (old value : Option Value) → Values → Option Values
 fill_cell k (Some old) value cells = None
 fill_cell k None None cells = None

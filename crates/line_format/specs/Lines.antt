@@ -83,7 +83,7 @@ mass_cancel_form cells = record {
 abbrev pub opening_form : Values → OpeningForm
 opening_form cells = record { day = cell_number (slice_index_or cells 0 None) }
 
--- the form of a letter's cells
+-- the form of a letter's cells (sheets 5)
 abbrev pub form_of : Letter → Values → Form
 form_of Entry cells = form.TheVariants.Entry (entry_form cells)
 form_of Change cells = form.TheVariants.Change (change_form cells)
@@ -106,7 +106,7 @@ read_word letter line word cells rest =
     if word.size == 0 then Ok cells
     else if_filled (with_word letter cells (part line word.start word.size)) word rest
 
--- the cells after at most n words from a place on (lines 1)
+-- the cells after at most n words from an offset on (lines 1)
 unfoldable pub read_words : (n : ℕ) → Letter → (line : List ℕ) → (at : ℕ) → Values
     → Result Values BadWord
 read_words zero letter line at cells = Ok cells
@@ -115,7 +115,7 @@ read_words (suc n) letter line at cells =
     read_word letter line word cells
     (λ filled. read_words n letter line (word.start + word.size) filled)
 
--- the cells that all words from a place on fill; a line has no more words than bytes (lines 1)
+-- the cells that all words from an offset on fill; a line has no more words than bytes (lines 1)
 abbrev pub cells_from : Letter → (line : List ℕ) → (at : ℕ) → Result Values BadWord
 cells_from letter line at = read_words (length line) letter line at blank_cells
 
@@ -137,6 +137,6 @@ first_read first line =
     if first.size == 0 then Ok None
     else lettered (letter_word (part line first.start first.size)) first line
 
--- a line (lines 1)
+-- what a line is read as: by its first word (lines 1)
 abbrev pub read_line : List ℕ → Result (Option Form) BadWord
 read_line line = first_read (next_word line 0) line

@@ -18,12 +18,12 @@ takes Blanks byte = is_space byte
 takes Word byte = not (is_space byte) && not (byte == HASH)
 takes Name byte = not (byte == EQUALS)
 
--- the word that starts at a place
+-- the word that starts at an offset
 abbrev pub word_from : (line : List ℕ) → (start : ℕ) → word.Word
 word_from line start = record { start = start; size = prefix_len (takes Word) (drop start line) }
 
--- the word that follows the blanks at a place; of no bytes at the end of the line, and at a comment
--- (lines 1)
+-- the word that follows the blanks at an offset; of no bytes at the end of the line, and at a
+-- comment (lines 1)
 abbrev pub next_word : (line : List ℕ) → (at : ℕ) → word.Word
 next_word line at = word_from line (at + prefix_len (takes Blanks) (drop at line))
 
@@ -36,7 +36,7 @@ pub record WordInLine (size : ℕ) (word : word.Word) : Type 0 where
   pub some : 1 ≤ word.size
   pub inside : word.start + word.size ≤ size
 
--- and so has a word that a line is refused for
+-- the same of the word that a line is refused for
 pub record InsideLine (size : ℕ) (word : BadWord) : Type 0 where
   pub from_1 : 1 ≤ word.place
   pub some : 1 ≤ word.length

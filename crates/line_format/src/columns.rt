@@ -15,7 +15,7 @@ pub(crate) enum CellKind {
     Price,
 }
 
-// A column: the place of its cell in the row, from 0, and how the value is written.
+// A column: which cell of the row it is, from 0, and how the value is written.
 #[derive(Clone, Copy)]
 pub(crate) struct Column {
     pub(crate) index: usize,
@@ -72,7 +72,7 @@ fn columns(letter: Letter) -> &'static [(&'static [u8], CellKind)]
     }
 }
 
-// The place of a name among columns.
+// The index of a name among columns.
 fn place_of(columns: &[(&[u8], CellKind)], name: &[u8]) -> Option<usize>
     ensures { result ≡ position (λ c. bytes_eq name.now c.0.now) columns.now }
 {

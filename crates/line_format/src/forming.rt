@@ -1,4 +1,4 @@
-// The form that the cells of a line make.
+// The form of the cells of a line.
 ghost use Rattle.std.specs.Prelude.{◌≡◌, None, slice_index_or};
 ghost use Rattle.line_format.specs.Lines.{cell_number, cell_byte, cell_price, entry_form, change_form, cancel_form, mass_cancel_form, opening_form, form_of};
 

@@ -1,5 +1,5 @@
-// Reads a row of a sheet that is written as a line of text: the letter, then cells by name, as `X
-// firm=12 number=3`.
+// Reads a row of a sheet that is written as a line of text: the letter, then cells by name, as
+// `X firm=12 number=3`.
 #![tactic(auto)]
 
 mod cells;

@@ -11,7 +11,7 @@ use crate::words::{BadWord, next_word};
 use forms::form::Form;
 use sheets::letter::Letter;
 
-// The cells that the words from a place on fill, or the word that the line is refused for.
+// The cells that the words from an offset on fill, or the word that the line is refused for.
 fn read_words(letter: Letter, line: &[u8], from: usize) -> Result<Cells, BadWord>
     requires { from ≤ length line.now }
     ensures ok { IfOk result (λ cells. cells_from letter line.now from ≡ Ok cells.values) }
@@ -30,7 +30,7 @@ fn read_words(letter: Letter, line: &[u8], from: usize) -> Result<Cells, BadWord
 }
 
 /// The form that a line asks for, whose values have room in the cells of a row; none where it has
-/// no words; or the word that it is refused for (docs/LINES.md, section 1).
+/// no words; or the word that it is refused for (lines 1).
 pub fn read_line(line: &[u8]) -> Result<Option<Form>, BadWord>
     ensures answer { result ≡ read_line line.now }
     ensures within { IfErr result (InsideLine (length line.now)) }

@@ -6,7 +6,7 @@ ghost use Rattle.line_format.specs.Words.{is_space, takes, next_word, bad_word, 
 
 use sheets::bytes::{bytes_from, part_of};
 
-// What blanks are made of.
+// The bytes that are blanks.
 const SPACE: u8 = b' ';
 
 const TAB: u8 = b'\t';
@@ -70,8 +70,8 @@ impl ByteRun {
     }
 }
 
-// The word that follows the blanks at a place of the line. It has no bytes at the end of the line,
-// and at a comment.
+// The word that follows the blanks at an offset of the line. It has no bytes at the end of the
+// line, and at a comment.
 fn word_behind(line: &[u8], at: usize) -> Word
     requires { at ≤ length line.now }
     ensures answer { result ≡ next_word line.now at }
@@ -82,7 +82,7 @@ fn word_behind(line: &[u8], at: usize) -> Word
     Word { start, size }
 }
 
-// The next word from a place of the line on; none at the end of the line, and at a comment.
+// The next word from an offset of the line on; none at the end of the line, and at a comment.
 pub(crate) fn next_word(line: &[u8], at: usize) -> Option<Word>
     requires { at ≤ length line.now }
     ensures some { IfSome result (λ word. word ≡ next_word line.now at) }

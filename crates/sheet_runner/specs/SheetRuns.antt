@@ -17,6 +17,7 @@ pub record SheetRun : Type 0 where
   pub replies : List Reply
   pub room : ℕ
 
+-- a venue and its list of replies together
 abbrev pub sheet_run : State → Replies → SheetRun
 sheet_run venue replies = record { venue = venue; replies = posted replies; room = replies.limit }
 
@@ -56,6 +57,7 @@ or_no_replies rows free None = if nat_lt free rows then Some NoReplies else None
 abbrev pub refusal_before_rows : (sheet : List ℕ) → (free : ℕ) → Option Refusal
 refusal_before_rows sheet free = or_no_replies (word sheet 0) free (sheet_refusal sheet)
 
+-- what a sheet is refused with at a venue, by the replies that are free (sheets 6)
 abbrev pub sheet_answer : (sheet : List ℕ) → SheetRun → Option Refusal
 sheet_answer sheet run = refusal_before_rows sheet (run.room - length run.replies)
 
@@ -64,6 +66,6 @@ abbrev pub rows_unless : Option Refusal → (sheet : List ℕ) → SheetRun → 
 rows_unless None sheet run = after_rows (word sheet 0) 0 sheet run
 rows_unless (Some refusal) sheet run = run
 
--- a whole sheet (sheets 6)
+-- a venue after a whole sheet (sheets 6)
 abbrev pub after_sheet : (sheet : List ℕ) → SheetRun → SheetRun
 after_sheet sheet run = rows_unless (sheet_answer sheet run) sheet run

@@ -12,7 +12,7 @@ use tapes::tape::Tape;
 use venue::day::Day;
 
 /// Works a row that was drawn: the step that it asks for, or none where it cannot be read. Its
-/// reply is posted either way (docs/SHEETS.md, section 6).
+/// reply is posted either way (sheets 6).
 pub fn work_row<B: Book>(
     drawn: Drawn,
     day: Day,

@@ -18,7 +18,7 @@ use venue::day::Day;
 
 /// The sheet before its first row, or the refusal that it gets before any row is worked:
 /// `ShortSheet`, `RowMisplaced`, or `NoReplies` where it has more rows than the list has replies
-/// free (docs/NUMBERS.md, section 1).
+/// free (numbers 1).
 pub fn admit<'a>(bytes: &'a [u8], replies: &Replies) -> Result<Sheet<'a>, Refusal>
     ensures ok { IfOk result (JustRead bytes.now) }
     ensures err { result_err result ≡ refusal_before_rows bytes.now (free_replies replies.now) }

@@ -27,7 +27,7 @@ joins before form =
     else if nat_lt MOST_BYTES (length (sheet_of (before ++ row_written form ∷ []))) then Err Bytes
     else Ok tt
 
--- the rows afterwards
+-- the rows afterwards (lines 2)
 abbrev pub with_form : (before : List (List ℕ)) → Form → List (List ℕ)
 with_form before form =
     if is_ok (joins before form) then before ++ row_written form ∷ [] else before
@@ -38,7 +38,8 @@ pub record Joined (before : List (List ℕ)) (form : Form) (after : List (List �
   pub answer : result ≡ joins before form
   pub state : after ≡ with_form before form
 
--- a draft has the rows of some forms and no other, and each form fits
+-- a draft has the rows of some forms and no other, and the cells of each form have room for its
+-- values
 pub record DraftHolds (draft : Draft) (forms : List Form) : Type 0 where
   pub written : rows draft ≡ map row_written forms
   pub fit : list_all form_in_bounds forms ≡ true

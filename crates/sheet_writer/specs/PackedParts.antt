@@ -12,8 +12,8 @@ abbrev pub number_bytes : Directory → ℕ → List ℕ
 number_bytes Rows number = number / 256 ∷ number % 256 ∷ []
 number_bytes Cells number = number ∷ []
 
--- the pairs of parts of these lengths, the first from a place on, and each other from where the one
--- before it ends (sheets 2)
+-- the pairs of parts of these lengths, the first from an offset on, and each other from where the
+-- one before it ends (sheets 2)
 abbrev pub pairs : Directory → (at : ℕ) → (lengths : List ℕ) → List ℕ
 pairs directory at [] = []
 pairs directory at (first ∷ rest) =

@@ -1,4 +1,4 @@
--- The parts that a directory names, as they are kept until they are packed.
+-- The parts that a directory names, as they are stored until they are packed.
 use Rattle.std.specs.Prelude.{◌≡◌, ℕ, ◌+◌, List, [], ◌∷◌, ◌++◌, length, map, vec_items, vec_len}
 use Rattle.std.specs.List.{concat}
 use Rattle.sheets.specs.Layout.{directory_end}
@@ -6,7 +6,7 @@ use Rattle.sheets.specs.declared.directory.Directory.{Directory}
 use Rattle.sheet_writer.specs.declared.parts.Parts.{Parts}
 use Rattle.sheet_writer.specs.PackedParts.{laid_out}
 
--- what is kept of some parts: for which directory, how long each is, and their bytes
+-- these parts are stored: for which directory, how long each is, and their bytes
 abbrev pub Packs : Directory → (parts : List (List ℕ)) → Parts → Type 0
 Packs directory parts kept =
     (kept.directory ≡ directory)

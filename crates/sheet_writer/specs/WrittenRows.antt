@@ -22,7 +22,7 @@ row_if_fits form = if form_in_bounds form then Some (row_written form) else None
 abbrev pub sheet_of : List (List ℕ) → List ℕ
 sheet_of rows = packed Rows (number_bytes Rows (length rows)) rows
 
--- the sheet of the rows of some forms
+-- the sheet of the rows of some forms (sheets 1)
 abbrev pub sheet_written : List Form → List ℕ
 sheet_written forms = sheet_of (map row_written forms)
 

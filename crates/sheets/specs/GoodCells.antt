@@ -44,7 +44,7 @@ ReadByFormat Good bytes (Ok None) = bytes ≡ []
 ReadByFormat Good bytes (Ok (Some value)) = Good bytes
 ReadByFormat Good bytes (Err place) = FirstWrong Good bytes place
 
--- and so for every cell of each kind
+-- and so for every cell of each kind (sheets 4)
 unfoldable pub CellsReadByFormat : Type 0
 CellsReadByFormat =
     (bytes : List ℕ)

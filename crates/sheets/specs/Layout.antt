@@ -3,7 +3,7 @@ use Rattle.std.specs.Prelude.{ℕ, zero, suc, ◌+◌, ◌*◌, ◌||◌, List, 
 use Rattle.sheets.specs.declared.directory.Directory.{Directory}
 use Rattle.sheets.specs.declared.directory.Directory.TheVariants.{Rows, Cells}
 
--- the two-byte number at place i, the high byte first (sheets 1)
+-- the two-byte number at offset i, the high byte first (sheets 1)
 abbrev pub word : List ℕ → (i : ℕ) → ℕ
 word bytes i = slice_index bytes i * 256 + slice_index bytes (i + 1)
 

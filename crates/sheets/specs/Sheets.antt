@@ -54,7 +54,7 @@ IsDrawn None (Some drawn) = ⊥
 IsDrawn (Some row) None = ⊥
 IsDrawn (Some row) (Some drawn) = (drawn.slip.row ≡ row.0) × (drawn.bytes.now ≡ row.1)
 
--- a sheet after its next row was drawn, where there is one
+-- a sheet after its next row was drawn, where there is one (sheets 6)
 abbrev pub after_draw : Sheet → Sheet
 after_draw sheet =
     record sheet { done = if nat_lt sheet.done sheet.count then sheet.done + 1 else sheet.done }

@@ -1,4 +1,4 @@
-// Bytes by their place: a byte past the end reads 0, and a part that reaches past the end is cut
+// Bytes by their offset: a byte past the end reads 0, and a part that reaches past the end is cut
 // there.
 ghost use Rattle.std.specs.Prelude.{◌≡◌, drop, slice_index};
 ghost use Rattle.sheets.specs.Layout.{word, part};
@@ -9,7 +9,7 @@ pub(crate) fn byte_at(bytes: &[u8], i: usize) -> u8
     bytes.get(i).copied().unwrap_or(0)
 }
 
-// The two-byte number at place i, the high byte first.
+// The two-byte number at offset i, the high byte first.
 pub(crate) fn word_at(bytes: &[u8], i: u32) -> u16
     ensures { result ≡ word bytes.now i }
 {
@@ -17,7 +17,7 @@ pub(crate) fn word_at(bytes: &[u8], i: u32) -> u16
     u16::from_be_bytes([byte_at(bytes, at), byte_at(bytes, at + 1)])
 }
 
-/// The bytes from place i on, none where it is past the end.
+/// The bytes from offset i on, none where it is past the end.
 pub fn bytes_from(bytes: &[u8], i: usize) -> &[u8]
     ensures { result.now ≡ drop i bytes.now }
 {

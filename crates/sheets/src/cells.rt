@@ -58,7 +58,7 @@ fn number_of(digits: &[u8]) -> u64
 }
 
 /// A number cell: 1 to 12 digits, or none where it is blank. The error is the place, from 1, of the
-/// first byte that cannot stand there (docs/SHEETS.md, section 4).
+/// first byte that cannot stand there (sheets 4).
 pub fn read_number(cell: &[u8]) -> Result<Option<u64>, u8>
     ensures { result ≡ read_number cell.now }
 {

@@ -5,8 +5,7 @@ ghost use Rattle.sheets.specs.Replies.{reply_of, sheet_reply};
 use forms::refusal::Refusal;
 
 /// A reply: the answer to one row. Row, cell and place count from 1; number is that of the refusal,
-/// 0 where the row was accepted; cell and place are 0 where the refusal names none (docs/SHEETS.md,
-/// section 6).
+/// 0 where the row was accepted; cell and place are 0 where the refusal names none (sheets 6).
 #[derive(Clone, Copy, Debug, PartialEq, Eq)]
 pub struct Reply {
     pub row: u16,

@@ -128,9 +128,9 @@ fn read_lettered(byte: u8, count: u8, rest: &[u8], row: &[u8]) -> Result<Form, R
 }
 
 /// The form of a row, or why it cannot be read: `UnknownRow`, `WrongCells`, `CellMisplaced` or
-/// `Unreadable`. Four laws stand with it: a row is read from its own bytes alone, and a cell from
-/// its own; a directory is refused for its first pair that breaks the pair rule, and a cell for its
-/// first byte that cannot stand there (docs/SHEETS.md, sections 2 to 4).
+/// `Unreadable`. Four laws are proved with it: a row is read from its own bytes alone, and a cell
+/// from its own; a directory is refused for its first pair that breaks the pair rule, and a cell
+/// for its first byte that cannot stand there (sheets 2, 3, 4).
 pub fn read_form(row: &[u8]) -> Result<Form, Refusal>
     ensures answer { result ≡ read_form row.now }
     ensures rows { RowAlone }

@@ -44,10 +44,11 @@ with_read number line forms (Ok None) = Ok forms
 with_read number line forms (Ok (Some form)) = joined number line forms form
 with_read number line forms (Err word) = Err (refused number word Word)
 
+-- one line more, as it is read (lines 2)
 abbrev pub with_line : (number : ℕ) → (line : List ℕ) → List Form → Result (List Form) Refused
 with_line number line forms = with_read number line forms (read_line line)
 
--- line by line, of which the first has this number
+-- line by line, of which the first has this number (lines 2)
 abbrev pub named_from : (number : ℕ) → List (List ℕ) → List Form → Result (List Form) Refused
 named_from number [] forms = Ok forms
 named_from number (line ∷ rest) forms =

@@ -11,7 +11,7 @@ use sheet_writer::draft::{Draft, Excess};
 use std::alloc::{AllocError, Global};
 
 // Adds the row of a line, where it has one. The values of a form that is read have room in their
-// cells, so that `add` never answers `Excess::Value`.
+// cells, so `Excess::Value` cannot be the answer.
 fn add_line(
     heap: Global,
     draft: &mut Draft,
@@ -38,7 +38,7 @@ fn add_line(
 }
 
 /// The bytes of the sheet of a text, whose rows read as the forms that its lines name, in their
-/// order; or the refusal of the first line that cannot be taken (docs/LINES.md, section 2). The
+/// order; or the refusal of the first line that cannot be taken (lines 2). The
 /// outer error is that memory failed.
 pub fn make_sheet(heap: Global, text: &[u8]) -> Result<Result<Vec<u8>, Refused>, AllocError>
     ensures made { IfOk result (λ answer. IfOk answer (λ v. SheetMade text.now (vec_items v))) }
