@@ -1,4 +1,4 @@
--- A walk along a queue by looks: what the answer of a look says of the orders that are left.
+-- An iterator over a queue by looks: what the answer of a look says of the orders that are left.
 use Rattle.std.proofs.Common.{◌≡◌, ℕ, zero, suc, ◌+◌, ◌≤◌, List, [], ◌∷◌, drop, length, Some, None, refl, ap, ◌∙◌, arith}
 use Rattle.std.specs.List.{slice_get}
 use Rattle.std.proofs.lemmas.List.{length-map, drop_more}

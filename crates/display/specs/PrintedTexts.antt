@@ -42,7 +42,7 @@ with_other fields other = record fields { other = other }
 abbrev pub with_cause : Fields → Cause → Fields
 with_cause fields cause = record fields { cause = cause_number cause }
 
--- the fields of a line of the tape (rules 16)
+-- the fields of a line of the tape, of kind 'A', 'R', 'S', 'T' or 'C' (rules 16)
 abbrev pub fields : Line → Fields
 fields (Accepted number limit quantity) = for_order ACCEPTED number (price_of limit) quantity
 fields (Replaced number limit quantity) = for_order REPLACED number limit quantity

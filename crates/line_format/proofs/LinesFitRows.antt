@@ -150,7 +150,7 @@ words_fit (suc n) letter line at cells end all e =
     word_fit (w.size == 0) letter (part line w.start w.size) w cells end (read_words n letter line (w.start + w.size)) all
     (λ filled h f. words_fit n letter line (w.start + w.size) filled end h f) e
 
--- the form of such cells fits
+-- a row has room for the form of such cells
 number_from : (o : Option Value) → value_fits o ≡ true → number_in_bounds (cell_number o) ≡ true
 number_from None h = refl
 number_from (Some (Number n)) h = h

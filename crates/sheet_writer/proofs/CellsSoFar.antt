@@ -10,7 +10,7 @@ use Rattle.sheet_writer.specs.CellTexts.{text, has_room}
 use Rattle.sheet_writer.proofs.DigitsReadBack.{text_short}
 
 module _ (cells : List Cell) (i : ℕ) (h : i < length cells) where
-  -- the cell at a place
+  -- the cell at an index
   abbrev at : Cell
   at = get_or cells i (Number None)
 

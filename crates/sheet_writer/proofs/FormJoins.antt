@@ -8,7 +8,7 @@ use Rattle.sheet_writer.specs.declared.draft.Excess as excess
 use Rattle.sheet_writer.specs.WrittenRows.{row_written, row_if_fits, sheet_of}
 use Rattle.sheet_writer.specs.Drafts.{Joined}
 
--- a form has a row exactly where it fits
+-- a form has a row exactly where its cells have room for its values
 from_no_row : (b : Bool) (row : List ℕ) → ◌≡◌ {A = Option (List ℕ)} None (cond b (Some row) None) → b ≡ false
 from_no_row true row e = cc
 from_no_row false row e = refl

@@ -8,8 +8,8 @@ use Rattle.sheets.specs.declared.directory.Directory.{Directory}
 use Rattle.sheets.specs.declared.directory.Directory.TheVariants.{Rows, Cells}
 use Rattle.sheet_writer.specs.PackedParts.{number_bytes, pairs, packed}
 
--- pair j of a directory is the first of those of some parts; the parts are the last bytes, from a
--- place on
+-- pair j of a directory is the first of those of some parts; the parts are the last bytes, from an
+-- offset on
 pub record PartsFrom (d : Directory) (bs : List ℕ) (j at : ℕ) (parts : List (List ℕ)) : Type 0 where
   pub before : List ℕ
   pub behind : List ℕ
@@ -23,7 +23,7 @@ pub record PartsFrom (d : Directory) (bs : List ℕ) (j at : ℕ) (parts : List 
 byte_after : (bs before rest : List ℕ) (i k : ℕ) → bs ≡ before ++ rest → i ≡ length before + k → get_or bs i 0 ≡ get_or rest k 0
 byte_after bs before rest i k e h = rw (e, h) (get_or-append-add before rest k 0)
 
--- pair j has the place and the length of the first part
+-- pair j has the offset and the length of the first part
 first_named : (d : Directory) (bs : List ℕ) (j at : ℕ) (p : List ℕ) (ps : List (List ℕ)) → PartsFrom d bs j at (p ∷ ps)
     → (offset_at d bs j ≡ at) × (length_at d bs j ≡ length p)
 first_named Rows bs j at p ps l =

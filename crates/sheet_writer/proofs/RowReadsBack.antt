@@ -46,7 +46,7 @@ type_text : (x : Option ℕ) → read_type (text (OneByte x)) ≡ Ok x
 type_text None = refl
 type_text (Some b) = refl
 
--- a row has a cell at place k
+-- a row has a cell k
 abbrev Has : List ℕ → ℕ → Cell → Type 0
 Has row k (Number x) = number_cell row k ≡ Ok x
 Has row k (OneByte x) = type_cell row k ≡ Ok x
@@ -116,7 +116,7 @@ form_read l count rest f e long keeps read =
     let checked : check_cells l count rest (letter_byte l ∷ (count ∷ rest)) ≡ Ok tt = rw (same, room, keeps) refl in
     rw (letter_back l, checked) read
 
--- a form fits exactly where each of its cells has room
+-- a row has room for a form exactly where each of its cells has room
 last_alone : (b : Bool) → (b && true) ≡ b
 last_alone true = refl
 last_alone false = refl

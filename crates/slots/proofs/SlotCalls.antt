@@ -40,7 +40,7 @@ module _ {X : Type 0} (ss : List (Option X)) (n : length ss ≡ SLOTS) where
     take_leaves = all_stored (set ss i None) (length-set ss i None ∙ n) ∙ rows_freed ss i s.within s.taken
         ∙ ap (remove (slot_rows ss)) s.count_before ∙ ap (λ l. remove l index) (sym (all_stored ss n))
 
-  -- at a place past the rows
+  -- at a position past the rows
   module _ (index : ℕ) (h : length (slot_rows ss) ≤ index) where
     pub replace_past : (x : X) → take SLOTS (slot_rows ss) ≡ set (take SLOTS (slot_rows ss)) index x
     replace_past x = rw (all_stored ss n) (sym (set_past (slot_rows ss) index x h))

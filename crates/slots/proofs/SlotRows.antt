@@ -55,7 +55,7 @@ one_free (Some x ∷ ss) (suc i) l h = omega (arith, one_free ss i (omega arith)
 abbrev pub slots_from : {X : Type 0} → ℕ → List (Option X) → List ℕ
 slots_from k ss = filter_map (λ p. option_map (λ _. p.0) p.1) (enumerate_from k ss)
 
--- the slot of the row at a place, and where there is none
+-- the slot of the row at a position, and where there is none
 nth_slot : {X : Type 0} (k : ℕ) (ss : List (Option X)) (index i : ℕ) → Some i ≡ slice_get (slots_from k ss) index → (j : ℕ) × (i ≡ k + j) × IsSlotOfIndex ss index j
 nth_slot k [] index i h = let z : ◌≡◌ {A = ℕ} 0 1 = cc in absurd (omega arith)
 nth_slot k (None ∷ ss) index i h =

@@ -1,4 +1,5 @@
--- Reversed lists: what is set, put in and removed at a place counted from one end is so at the place counted from the other.
+-- Reversed lists: what is set, put in and removed at an index counted from one end is so at the
+-- index counted from the other.
 use Rattle.std.proofs.Common.{◌≡◌, ℕ, suc, ◌+◌, List, [], ◌∷◌, ◌++◌, length, take, drop, set, reverse, sym, refl, ap, ◌∙◌, arith}
 use Rattle.std.specs.List.{insert, remove}
 use Rattle.std.proofs.lemmas.List.{reverse-append, length-reverse, take-append-drop, length-drop, take_at, drop_at, append_assoc, set_split}

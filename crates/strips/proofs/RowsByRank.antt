@@ -12,7 +12,7 @@ use Rattle.strips.proofs.ReversedLists.{turned_set}
 front_length : {X : Type 0} (c m : ℕ) (xs : List X) → length (front c m xs) ≡ min c (min m (length xs))
 front_length c m xs = simp length-take refl
 
--- the used places are the first ones
+-- the used rows are the first ones
 front_used : {X : Type 0} (c m : ℕ) (xs : List X) (n : ℕ) → n ≡ min c (min m (length xs)) → front c m xs ≡ take n xs
 front_used c m xs n e =
     let l : min c (length (take m xs)) ≡ n = simp length-take (sym e) in
@@ -31,7 +31,7 @@ ranked_few n xs h = ap reverse (take-take n MOST_RECORDS xs h)
 front_set : {X : Type 0} (c m : ℕ) (xs : List X) (i : ℕ) (y : X) → front c m (set xs i y) ≡ set (front c m xs) i y
 front_set c m xs i y = ap (take c) (set_take m xs i y) ∙ set_take c (take m xs) i y
 
--- another row in a place
+-- another row at a position
 pub ranked_set : {X : Type 0} (c : ℕ) (xs : List X) (n i : ℕ) (y : X) → n ≡ length (ranked c xs) → i < n → ranked c (set xs (n - 1 - i) y) ≡ set (ranked c xs) i y
 ranked_set c xs n i y e h =
     ap reverse (front_set c MOST_RECORDS xs (n - 1 - i) y)

@@ -18,7 +18,7 @@ read cs = map (λ c. (c.0.now, c.1)) cs
 abbrev place_of : List ℕ → Names → Option ℕ
 place_of name cs = position (λ c. bytes_eq name c.0.now) cs
 
--- the column at a place; places count on from k
+-- the column at an index; the columns count on from k
 abbrev column_at : ℕ → Names → ℕ → Column
 column_at k cs n = record { index = k + n; kind = (slice_index_or cs n (record { ref_ptr = (0, 0); now = [] }, Number)).1 }
 
@@ -26,7 +26,7 @@ named : (k : ℕ) (cs : Names) (name : List ℕ) → column_named k (read cs) na
 named k [] name = refl
 named k (c ∷ cs) name = grind (arith, common_steps, named (k + 1) cs name)
 
--- the column of a name is the one at the name's place
+-- the column of a name is the one at the name's index
 at_place : (letter : Letter) (cs : Names) (name : List ℕ) (o : Option ℕ) → read cs ≡ columns letter → o ≡ place_of name cs
     → column_of letter name ≡ option_map (column_at 0 cs) o
 at_place letter cs name o e p = rw (← e, p) (named 0 cs name)
