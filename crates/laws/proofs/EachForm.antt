@@ -103,7 +103,7 @@ stamps_ok : (f : MatchState) → IfOk (λ _. f.session.next_stamp + needed f.que
 stamps_ok f = cond_both (ltb (undrawn_stamps f.session) (needed f.queues)) (Err NoStamps) (Ok tt) (IfOk (λ _. f.session.next_stamp + needed f.queues ≤ STAMPS_END))
     (λ _. tt) (λ e. omega (arith, ltb-false (undrawn_stamps f.session) (needed f.queues) e))
 
--- a record has the place where it was found
+-- a record has the position where it was found
 abbrev FoundAt : Queues → Found → Type 0
 FoundAt q x = look_at x.queue x.at q ≡ Some x.«record»
 

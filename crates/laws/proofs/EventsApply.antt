@@ -65,7 +65,7 @@ pub record MayRest (o : Order) (f : MatchState) : Type 0 where
   pub none_match : NoneWithinLimit o.side o.price (at (opposite o.side) f.queues.stands)
   pub has_place : count (Orders o.side) f.queues < capacity (Orders o.side) f.queues
 
--- a record has this place of its queue
+-- a record has this position in its queue
 abbrev pub RecordAt : Queue → ℕ → Record → Queues → Type 0
 RecordAt (Orders s) i r q = (o : Order) × (r ≡ Standing o) × (slice_get (at s q.stands) i ≡ Some o)
 RecordAt (Stops s) i r q = (x : Stop) × (r ≡ Waiting x) × (slice_get (at s q.waits) i ≡ Some x)

@@ -5,7 +5,7 @@ use Rattle.forms.specs.declared.form.Form.{Form}
 use Rattle.venue.specs.Days.{State, step}
 use Rattle.laws.specs.Runs.{after}
 
--- the list from a place on, and from its end
+-- the list from a position on, and from its end
 pub one_step : (forms : List Form) (i : ℕ) (d : Form) (s : State) → i < length forms → after (drop i forms) s ≡ after (drop (i + 1) forms) (step (get_or forms i d) s)
 one_step forms i d s h = rw (add-one, drop-cons forms i d)
 

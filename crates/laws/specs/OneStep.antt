@@ -12,7 +12,8 @@ use Rattle.laws.specs.Runs.{session_of, after}
 use Rattle.laws.specs.WithinRoom.{Trace, state_between_steps}
 use Rattle.laws.specs.Reaching.{Filled}
 
--- neither lines nor stamps run out within the step, and every put is taken
+-- neither lines nor stamps run out within the step, and a put is refused only where its queue is
+-- full (rules 7)
 abbrev pub StepWithinRoom : Form → State → Type 0
 StepWithinRoom form state =
     (day stamp : ℕ) (q : Queues) (limit : ℕ) (forms : List Form) →

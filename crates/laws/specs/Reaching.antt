@@ -26,8 +26,8 @@ front_traded turn first behind =
     then behind
     else put_by_rank rank_of (order_refilled turn first.shown first) behind
 
--- an order without end trades on while the first opposite order is within the limit and of another
--- investor (rules 10)
+-- an order that has no end of lots trades on while the first opposite order is within the limit and
+-- of another investor (rules 10)
 abbrev pub unlimited_trade : (trades turn : ℕ) → Order → List Order → ℕ
 unlimited_trade zero turn order opposites = 0
 unlimited_trade (suc trades) turn order [] = 0

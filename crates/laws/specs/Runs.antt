@@ -27,7 +27,7 @@ abbrev pub session_of : Day → Session
 session_of (Open day) = day.session
 session_of (Closed day) = day.session
 
--- what holds between steps (rules 10, 12)
+-- the laws of a state: every lot is accounted for, no bid meets an offer, no stop is ripe
 pub record Lawful (state : State) : Type 0 where
   pub balanced : Balanced state.tape.lines state.queues
   pub uncrossed : Uncrossed state.queues.stands

@@ -196,8 +196,8 @@ changed_row asked turn shown order = record order {
   validity = unwrap_or asked.validity order.validity;
 }
 
--- it becomes incoming under a new turn, or keeps place and turn and shows the smaller of its shown
--- and open lots
+-- it becomes incoming under a new turn, or stays where it is and keeps its turn, and shows the
+-- smaller of its shown and open lots (rules 13)
 abbrev pub after_change : Amendment → ℕ → Account → Account
 after_change asked turn existing =
     if costs_turn asked existing.order
@@ -249,7 +249,8 @@ note_cancel number lots tally = record tally {
   accounts = adjust (λ a. only (numbered number a) (take_off lots tally.turn a) a) tally.accounts;
 }
 
--- a stop that fires is the next incoming order, so that the one before has come to stand
+-- what a line does; a stop that triggers is the next incoming order, so that the one before has
+-- come to stand (rules 12, 16)
 abbrev pub note : Request → Line → Tally → Tally
 note asked (Accepted number limit quantity) tally = note_entry asked number tally
 note asked (Replaced number limit quantity) tally = note_change asked number tally

@@ -1,5 +1,5 @@
--- Inside an accepted step nothing runs out and nothing is lost (rules 7): each event writes its
--- lines in full and draws its stamps, the book takes what is put, and every order is within its
+-- Inside a step neither lines nor stamps run out (rules 7): each event writes its lines in full and
+-- draws its stamps, a put is refused only where its queue is full, and every order is within its
 -- bounds.
 --   Trace   events, one after another, from the match state before a step to that after it
 use Rattle.std.specs.Prelude.{◌≡◌, ℕ, ◌+◌, ◌-◌, ◌<◌, min, true, false, List, [], ◌∷◌, ◌++◌, None, Ok, Err}
@@ -69,7 +69,7 @@ outcome_put refilled lots stamp resting queues =
     put_answer (Standing (order_refilled stamp lots resting)) queues ≡ Ok tt
 outcome_put _ lots stamp resting queues = Unit {0}
 
--- a claim of what is cancelled because put refused it (rules 5, 8, 11)
+-- a claim about a put, which cause 5 alone makes (numbers 7)
 abbrev pub IfNoPlace : Cause → Type 0 → Type 0
 IfNoPlace NotPut claim = claim
 IfNoPlace _ claim = Unit {0}

@@ -22,12 +22,13 @@ pub fn always_fair()
 {}
 
 /// Inside a step neither the tape nor the stamps run out, no number is put twice, and no refill is
-/// refused.
+/// refused (rules 7).
 pub fn always_within_room()
     ensures { AlwaysWithinRoom }
 {}
 
-/// What an accepted entry or change asks for is what the order has.
+/// An accepted entry, or change, has the quantity, the open, shown and disclosed lots that it asks
+/// for (rules 8, 13).
 pub fn as_requested()
     ensures entered { EnteredAsRequested }
     ensures changed { ChangedAsRequested }
@@ -39,8 +40,8 @@ pub fn laws_can_fail()
     ensures { Counterexamples }
 {}
 
-/// Reach is what an order without end would trade; so an entry that wants all, or a minimum, trades
-/// that or nothing.
+/// Reach is what an order that had no end of lots would trade (rules 9); so an entry that wants
+/// all, or a minimum, trades that or nothing (rules 8).
 pub fn reach_means()
     ensures lots { ReachMeans }
     ensures filled { AlwaysFilled }

@@ -36,7 +36,7 @@ sweep_cancels k j p c n i f r e h b = sweep_next k j p c n i f (Some r) e h ∙ 
 pub sweep_passes : (k j : ℕ) (p : Removal) (c : Cause) (n : Queue) (i : ℕ) (f : MatchState) (r : Record) → k ≡ suc j → look_at n i f.queues ≡ Some r → false ≡ removes p (order_of_record r) → sweep k p c n i f ≡ sweep j p c n (i + 1) f
 sweep_passes k j p c n i f r e h b = sweep_next k j p c n i f (Some r) e h ∙ cond-false _ _ _ (sym b)
 
--- a place where a record is found is within the queue, and a take leaves one record less
+-- a position where a record is found is within the queue, and a take leaves one record less
 pub found_within : (n : Queue) (i : ℕ) (q : Queues) (r : Record) → look_at n i q ≡ Some r → i < count n q
 found_within (Orders s) i q r e = option_within Standing (at s q.stands) i r e
 found_within (Stops s) i q r e = option_within Waiting (at s q.waits) i r e

@@ -26,7 +26,7 @@ new_disclosed amendment order = unwrap_or amendment.disclosed order.disclosed
 abbrev pub new_validity : Amendment → Order → Validity
 new_validity amendment order = unwrap_or amendment.validity order.validity
 
--- the lots that an order has traded
+-- the lots that an order has traded (rules 13)
 abbrev pub lots_traded : Order → ℕ
 lots_traded order = order.quantity - order.open_lots
 
@@ -54,7 +54,8 @@ changed_order turn shown amendment order = order_of (record (row_of order) {
   validity = new_validity amendment order;
 })
 
--- an order that keeps its place shows the smaller of its shown and its new open lots (rules 13)
+-- an order that keeps its position and turn shows the smaller of its shown and its new open lots
+-- (rules 13)
 abbrev pub amended_order : Amendment → Order → Order
 amended_order amendment order =
     changed_order order.turn (min order.shown (new_open_lots amendment order)) amendment order
@@ -72,7 +73,7 @@ requeued_order stamp amendment order =
 abbrev pub requeue_and_run : Side → ℕ → Order → MatchState → MatchState
 requeue_and_run side at order state = run_to_rest (apply (requeues side at order) state)
 
--- the order at a place loses its turn, or keeps its place (rules 13)
+-- the order at a position loses its turn, or keeps position and turn (rules 13)
 abbrev pub change_at : Amendment → Side → ℕ → Order → MatchState → MatchState
 change_at amendment side at order state =
     if loses_turn amendment order

@@ -36,7 +36,7 @@ entered_order new_order price stamp = order_of (record {
   tag = new_order.tag;
 })
 
--- FOK: an order that trades whole or is cancelled
+-- FOK: an order that trades whole or is cancelled (rules 1)
 abbrev pub all_or_none : Validity → Bool
 all_or_none Fok = true
 all_or_none _ = false

@@ -1,4 +1,4 @@
--- The match state of a book, a tape and a session, with the incoming order.
+-- The match state of a book, a tape and a session, with the incoming order (rules 1).
 use Rattle.std.specs.Prelude.{Option}
 use Rattle.orders.specs.declared.order.Order.{Order}
 use Rattle.books.specs.Model.{Queues}

@@ -72,9 +72,9 @@ pub data Event : Type 0 where
   rests : Order → Event
   -- the first stop of a side leaves its queue and becomes the incoming order (rules 12)
   triggers : Side → Stop → Event
-  -- the record at a place of a queue is removed (rules 14, 15)
+  -- the record at a position of a queue is removed (rules 14, 15)
   cancels_resting : Cause → Queue → ℕ → Record → Event
-  -- an order is changed and keeps its place (rules 13)
+  -- an order is changed and keeps its position and turn (rules 13)
   amends : ℕ → Order → Event
   -- an order is changed, loses its turn and becomes the incoming one (rules 13)
   requeues : Side → ℕ → Order → Event
@@ -89,7 +89,7 @@ outcome lots resting =
     else if resting.shown == lots then refilled
     else reduced
 
--- an order is put into its queue again, and is lost where put refuses it
+-- an order is put into its queue again, and is lost where put refuses it (rules 5)
 unfoldable pub put_back : Order → Queues → Queues
 put_back order queues = after_put (put_answer (Standing order) queues) (Standing order) queues
 
@@ -107,7 +107,7 @@ session_after_trade filled session = session
 session_after_trade refilled session = stamp_drawn session
 session_after_trade reduced session = session
 
--- what a trade leaves of the incoming order: none, where it has no open lots
+-- what a trade leaves of the incoming order: none, where it has no open lots (rules 3, 10)
 abbrev pub incoming_left : ℕ → Order → Option Order
 incoming_left lots incoming =
     if incoming.open_lots == lots then None else Some (order_refilled incoming.turn lots incoming)
@@ -130,7 +130,7 @@ traded lots incoming resting state = record {
   session = traded_at resting.price (session_after_trade (outcome lots resting) state.session);
 }
 
--- what an event does to the match state
+-- what an event does to the match state: queues, incoming order, tape and session (rules 8 to 15)
 abbrev pub apply : Event → MatchState → MatchState
 apply (accepts order) state = record state {
   incoming = Some order;

@@ -53,7 +53,7 @@ reach_by (Some p) incoming orders =
 abbrev pub reach : Order → List Order → ℕ
 reach incoming orders = reach_by (own_price incoming orders) incoming orders
 
--- the orders that stand opposite an incoming one, in rank order
+-- the orders that stand opposite an incoming one, in rank order (rules 4, 9)
 abbrev pub opposite_orders : Order → Queues → List Order
 opposite_orders incoming queues = at (opposite incoming.side) queues.stands
 

@@ -43,7 +43,7 @@ sweep_at None removal cancel pass end = end
 sweep_at (Some found) removal cancel pass end =
     if removes removal (order_of_record found) then cancel found else pass
 
--- at most so many records of a queue, from a place on
+-- at most so many records of a queue, from a position on (rules 14)
 unfoldable pub sweep : ℕ → Removal → Cause → Queue → ℕ → MatchState → MatchState
 sweep zero removal cause queue i state = state
 sweep (suc most) removal cause queue i state =

@@ -79,7 +79,7 @@ trigger_event (Some ripe_stop) = Some (triggers ripe_stop.0 ripe_stop.1)
 abbrev pub first_opposite : Order → MatchState → Option Order
 first_opposite incoming state = first_order (opposite incoming.side) state.queues
 
--- the event of the incoming order; without one, of the stop that is triggered next
+-- the event of the incoming order; without one, of the stop that is triggered next (rules 10, 12)
 abbrev pub next_given : Option Order → MatchState → Option Event
 next_given (Some incoming) state =
     Some (incoming_event incoming (first_opposite incoming state) state.queues)
@@ -106,7 +106,7 @@ abbrev pub total : {X : Type 0} → (X → ℕ) → List X → ℕ
 total f [] = 0
 total f (x ∷ l) = f x + total f l
 
--- how many parts hidden lots are shown in, at the disclosed size
+-- how many parts hidden lots are shown in, at the disclosed size (rules 3)
 abbrev pub hidden_parts : ℕ → ℕ → ℕ
 hidden_parts hidden disclosed = (hidden + (disclosed - 1)) / disclosed
 

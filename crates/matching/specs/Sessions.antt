@@ -9,7 +9,7 @@ use Rattle.matching.specs.declared.session.TheConstants.{STAMPS_END}
 abbrev pub stamp_after : ℕ → ℕ
 stamp_after stamp = if nat_lt stamp STAMPS_END then stamp + 1 else stamp
 
--- the next stamp is drawn
+-- the next stamp is drawn (rules 2)
 abbrev pub stamp_drawn : Session → Session
 stamp_drawn session = record session { next_stamp = stamp_after session.next_stamp }
 

@@ -75,7 +75,7 @@ impl Amendment {
         })
     }
 
-    /// The order that keeps its place and turn (rules 13).
+    /// The order that keeps its position and turn (rules 13).
     pub fn amended_order(self, order: Order) -> Order
         ensures { result ≡ amended_order self order }
     {

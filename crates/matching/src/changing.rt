@@ -25,7 +25,7 @@ fn replaced(order: Order) -> Line
     }
 }
 
-// The order is changed and keeps its place.
+// The order is changed and keeps its position and turn.
 fn amend<B: Book>(book: &mut B, tape: &mut Tape, at: usize, order: Order)
     ensures { (session : SessionValue) → match_state (B.queues book.new) tape.new session None
         ≡ apply (amends at order) (match_state (B.queues book.old) tape.old session None) }
@@ -52,8 +52,8 @@ fn requeue<B: Book>(
     let _ = session.draw();
 }
 
-/// Changes a standing order: `order`, which is at place `at` on `side`. It keeps its place, or it
-/// loses its turn and trades as incoming, and then each ripe stop does (rules 13).
+/// Changes a standing order: `order`, which is at position `at` on `side`. It keeps its position
+/// and turn, or it loses its turn and trades as incoming, and then each ripe stop does (rules 13).
 pub fn change<B: Book>(
     book: &mut B,
     tape: &mut Tape,

@@ -14,8 +14,8 @@ pub struct CancelFilter {
     pub investor: Option<u64>,
 }
 
-/// What a mass cancel or a closing removes (rules 14, 15). An enum and no closure, so that contracts
-/// and laws can name it.
+/// What a mass cancel or a closing removes (rules 14, 15). An enum and no closure, so that
+/// contracts and laws can name it.
 #[derive(Clone, Copy)]
 pub enum Removal {
     Matching(CancelFilter),

@@ -13,7 +13,7 @@ use orders::side::Side;
 use tapes::cause::Cause;
 use tapes::tape::Tape;
 
-/// Cancels `record`, which is at place `at` of `queue` (rules 14).
+/// Cancels `record`, which is at position `at` of `queue` (rules 14).
 pub fn cancel_resting<B: Book>(
     book: &mut B,
     tape: &mut Tape,
@@ -31,7 +31,7 @@ pub fn cancel_resting<B: Book>(
 }
 
 // Along a queue, what the removal names is cancelled and what it does not is passed.
-// By place, not by an iterator: a cancel changes the queue, and the next record moves up.
+// By position, not by an iterator: a cancel changes the queue, and the next record moves up.
 fn sweep<B: Book>(book: &mut B, tape: &mut Tape, removal: Removal, cause: Cause, queue: Queue)
     ensures { (session : SessionValue) → match_state (B.queues book.new) tape.new session None
         ≡ swept removal cause queue (match_state (B.queues book.old) tape.old session None) }

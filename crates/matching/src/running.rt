@@ -11,8 +11,8 @@ use orders::order::Order;
 use tapes::cause::Cause;
 use tapes::tape::Tape;
 
-/// Runs to rest: the incoming order trades and its leftover is settled, then each ripe stop is
-/// triggered and trades as incoming (rules 10, 11, 12).
+/// Runs to rest: the incoming order trades and its leftover stands or is cancelled, then each ripe
+/// stop is triggered and trades as incoming (rules 10, 11, 12).
 ///
 /// The inner loop ends when there is no incoming order left; each turn of it is one trade, or what
 /// ends the incoming order. The outer loop ends when no stop is ripe; each turn of it triggers one.

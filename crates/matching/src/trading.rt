@@ -98,8 +98,8 @@ pub fn trade<B: Book>(
     incoming_left(incoming, lots)
 }
 
-/// Settles a leftover: an IOC one is cancelled, any other stands, or is cancelled where put refuses
-/// it (rules 11).
+/// What becomes of a leftover: that of an IOC order is cancelled, any other stands, or is cancelled
+/// where put refuses it (rules 11).
 pub fn rest_or_cancel<B: Book>(book: &mut B, tape: &mut Tape, order: Order)
     ensures { (session : SessionValue) → match_state (B.queues book.new) tape.new session None
         ≡ apply (leftover order (B.queues book.old))

@@ -12,12 +12,12 @@ use Rattle.forms.specs.declared.refusal.Refusal.{Refusal}
 use Rattle.forms.specs.declared.refusal.Refusal.TheVariants.{UnknownOrder, ClientNumberTaken, ChangeOfStop}
 use Rattle.venue.specs.declared.lookup.Found.{Found}
 
--- an order other than the excepted one
+-- an order other than the excepted one, which is the changed one (rules 13)
 abbrev pub is_other : Option ℕ → ℕ → Bool
 is_other None number = true
 is_other (Some except) number = not (except == number)
 
--- another order or stop of the firm that has the client number
+-- another order or stop of the firm that has the client number (rules 8, 13)
 abbrev pub claims : (firm client : ℕ) → Option ℕ → Order → Bool
 claims firm client except order =
     order.firm == firm && (order.client == client && is_other except order.number)
@@ -38,7 +38,7 @@ abbrev pub client_free : (firm client : ℕ) → Option ℕ → Queues → Resul
 client_free firm client except queues =
     if client_claimed firm client except queues then Err ClientNumberTaken else Ok tt
 
--- the record at a place is the firm's; another firm's is unknown (rules 13, 14)
+-- the record at a position is the firm's; another firm's is unknown (rules 13, 14)
 abbrev pub of_firm : ℕ → Queue → ℕ → Option Record → Result Found Refusal
 of_firm firm queue at None = Err UnknownOrder
 of_firm firm queue at (Some found) =

@@ -130,7 +130,7 @@ after_mass_cancel form state =
 abbrev pub cancel_day_orders : MatchState → MatchState
 cancel_day_orders state = removals DayOrders DayClosed state
 
--- the day that an opening names, which is later than the present one, or 30
+-- the day that an opening names, which is later than the present one, or 30 (rules 15)
 abbrev pub opening_result : OpeningForm → ℕ → Queues → Log → Result ℕ Refusal
 opening_result form day queues tape =
     and_then (validate_opening form) (λ next.

@@ -1,6 +1,6 @@
-// Open and closed days. A day is neither Copy nor Clone: a step uses it up, and answers the day that
-// it leaves. They are two types of the same fields, so that no step of an open day is taken on a
-// closed one.
+// Open and closed days. A day is neither Copy nor Clone: a step uses it up, and answers the day
+// that it leaves. They are two types of the same fields, so that no step of an open day is taken
+// on a closed one.
 // Book and tape are arguments of each step, and no part of the day.
 use matching::session::Session;
 

@@ -9,7 +9,7 @@ use forms::refusal::Refusal;
 use orders::order::Order;
 use orders::side::Side;
 
-/// A record, with its queue and its place there, from 0.
+/// A record, with its queue and its position there, from 0.
 #[derive(Clone, Copy)]
 pub struct Found {
     pub queue: Queue,

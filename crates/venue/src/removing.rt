@@ -38,8 +38,8 @@ fn mass_cancel_answer<B: Book>(
 }
 
 impl OpenDay {
-    /// A cancel of the firm's order or stop of a number: answers whether it was accepted, or why not
-    /// (rules 14).
+    /// A cancel of the firm's order or stop of a number: answers whether it was accepted, or why
+    /// not (rules 14).
     pub fn cancel<B: Book>(
         self,
         book: &mut B,
@@ -67,8 +67,8 @@ impl OpenDay {
         }
     }
 
-    /// A mass cancel of the firm's orders and stops that match every filled cell. It is accepted where
-    /// nothing matches too (rules 14).
+    /// A mass cancel of the firm's orders and stops that match every filled cell. It is accepted
+    /// where nothing matches too (rules 14).
     pub fn mass_cancel<B: Book>(
         self,
         book: &mut B,

@@ -15,7 +15,7 @@ stops-init g c = on_the_way_at_start _
 pub trading-init : goal.trading-init
 trading-init g c = on_the_way_at_start _
 
--- without an opposite order the leftover is settled
+-- without an opposite order the leftover stands or is cancelled
 no_opposite : (g : given.Over) (c : goal.After-rest_or_cancel g) → Turn (match_state (g.B.Book.queues c.trading.book) c.trading.tape c.trading.session c.trading.incoming) (match_state (g.B.Book.queues c.rest_or_cancel.new.book) c.rest_or_cancel.new.tape c.trading.session None)
 no_opposite g c =
     turn_without_opposite (g.B.Book.queues c.trading.book) c.trading.tape c.trading.session c.trading.incoming c.in-Some.order c.opposite.result c.first_order.result _
@@ -27,7 +27,7 @@ trading-smaller-in_default-first_order g c = (no_opposite g c).weight_falls
 pub trading-preserved-in_default-first_order : goal.trading-preserved-in_default-first_order
 trading-preserved-in_default-first_order g c = on_the_way_after_turn _ _ _ c.trading.invariant (no_opposite g c)
 
--- the first opposite price is beyond the limit, and the leftover is settled
+-- the first opposite price is not within the limit, and the leftover stands or is cancelled
 beyond_limit : (g : given.Over) (c : goal.After-rest_or_cancel-then-not-may_trade_at g) → Turn (match_state (g.B.Book.queues c.trading.book) c.trading.tape c.trading.session c.trading.incoming) (match_state (g.B.Book.queues c.rest_or_cancel-then-not-may_trade_at.new.book) c.rest_or_cancel-then-not-may_trade_at.new.tape c.trading.session None)
 beyond_limit g c =
     turn_beyond_limit (g.B.Book.queues c.trading.book) c.trading.tape c.trading.session c.trading.incoming c.in-Some.order c.opposite.result c.first_order.result _
