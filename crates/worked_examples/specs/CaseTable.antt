@@ -1,4 +1,4 @@
--- The table of worked cases (rules 18).
+-- The worked cases (rules 18).
 use Rattle.std.specs.Prelude.{List, [], ◌∷◌}
 use Rattle.std.specs.List.{AllByRecursion}
 use Rattle.tapes.specs.declared.cause.Cause.TheVariants.{NewOrder, ShortReach, OwnInvestor}
@@ -52,9 +52,9 @@ bid_cancelled = record {
   left = [] ∷ [] ∷ [] ∷ [] ∷ [];
 }
 
--- A FOK that finds too little: cancelled whole, and the bid stays
-abbrev pub fok_short : Case
-fok_short = record {
+-- a FOK against a bid that is too small: it is cancelled whole, and the bid is as it was
+abbrev pub all_or_nothing : Case
+all_or_nothing = record {
   steps = entry 1 (buy 200 2000) ∷ entry 2 (fok (sell 400 2000)) ∷ [];
   lines = A 1 2000 200 ∷ A 2 2000 400 ∷ C 2 2000 400 ShortReach ∷ [];
   left = (rest 1 2000 200 200 ∷ []) ∷ [] ∷ [] ∷ [] ∷ [];
@@ -68,7 +68,7 @@ market_sale = record {
   left = [] ∷ (rest 2 2000 100 100 ∷ []) ∷ [] ∷ [] ∷ [];
 }
 
--- A refill goes behind its price
+-- an order that is refilled goes behind its price
 abbrev pub refill_behind : Case
 refill_behind = record {
   steps =
@@ -80,7 +80,7 @@ refill_behind = record {
   left = [] ∷ (rest 1 1000 50 150 ∷ []) ∷ [] ∷ [] ∷ [];
 }
 
--- One's own investor in the way of a FOK: the reach is the 100 shown ahead of it
+-- an order of one's own investor is in the way: the reach is the 100 shown ahead of it
 abbrev pub own_in_the_way : Case
 own_in_the_way = record {
   steps =
@@ -101,16 +101,12 @@ own_met = record {
   left = [] ∷ (rest 2 1000 50 50 ∷ rest 1 1000 100 200 ∷ []) ∷ [] ∷ [] ∷ [];
 }
 
--- A stop set off: the trade at 25,20 makes it ripe
-abbrev pub stop_triggered : Case
-stop_triggered = record {
-  steps =
-      entry 1 (buy_stop 200 2520 2530) ∷ entry 2 (sell 100 2520) ∷ entry 3 (sell 100 2530)
-      ∷ entry 4 (buy 40 2520) ∷ [];
-  lines =
-      A 1 2530 200 ∷ A 2 2520 100 ∷ A 3 2530 100 ∷ A 4 2520 40 ∷ T 4 2 2520 40 ∷ S 1 2530 200
-      ∷ T 1 2 2520 60 ∷ T 1 3 2530 100 ∷ [];
-  left = (rest 1 2530 40 40 ∷ []) ∷ [] ∷ [] ∷ [] ∷ [];
+-- a buy stop triggers
+abbrev pub stop_fires : Case
+stop_fires = record {
+  steps = entry 1 (stop 1 200 2520 2530) ∷ entry 2 (sell 100 2520) ∷ entry 3 (sell 100 2530) ∷ entry 4 (buy 40 2520) ∷ [];
+  lines = A 1 2530 200 ∷ A 2 2520 100 ∷ A 3 2530 100 ∷ A 4 2520 40 ∷ T 4 2 2520 40 ∷ S 1 2530 200 ∷ T 1 2 2520 60 ∷ T 1 3 2530 100 ∷ [];
+  open_lots = (rest 1 2530 40 40 ∷ []) ∷ [] ∷ [] ∷ [] ∷ [];
 }
 
 abbrev pub table : List Case
