@@ -1,4 +1,5 @@
-// The strip book, the slot book, and front cards above them under the same steps: each call has the same answer (rules 5).
+// The strip book, the slot book, and front cards above them under the same steps: prints whether
+// they answer the same.
 #![tactic(auto)]
 
 ghost use Rattle.std.specs.Prelude.{◌≡◌};
@@ -26,7 +27,7 @@ fn slots_under_card() -> FrontCard<SlotBook>
     FrontCard::over(slot_book())
 }
 
-// The word that is printed for a book: whether its answers are those of the first one.
+// Whether a book gave the same text as the first.
 fn verdict(first: &str, text: &str) -> &'static str {
     if first == text { "same" } else { "differs" }
 }

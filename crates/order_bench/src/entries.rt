@@ -5,10 +5,10 @@ use laws::calls::step;
 use tapes::tape::Tape;
 use venue::day::Day;
 
-// One past the highest client number.
+// One above the highest client number.
 const CLIENTS_END: u64 = 1_000_000_000;
 
-// The client numbers of the orders: rising from 1, or falling from the highest.
+/// The client numbers of the orders: rising from 1, or falling from the highest.
 #[derive(Clone, Copy)]
 pub enum Numbering {
     Rising,
@@ -16,7 +16,7 @@ pub enum Numbering {
 }
 
 impl Numbering {
-    // The client number of an order, by its place in the stream, from 1.
+    // The client number of an order, by its position in the stream, from 1.
     fn client(self, place: u64) -> u64 {
         match self {
             Numbering::Rising => place,
@@ -25,7 +25,7 @@ impl Numbering {
     }
 }
 
-// Enters orders that come after the first `before`; returns the day, and how many were accepted.
+/// Enters orders that come after the first `before`; returns the day, and how many were accepted.
 pub fn enter_all<B: Book>(
     mut day: Day,
     book: &mut B,

@@ -4,7 +4,7 @@ use forms::form::{EntryForm, Form};
 use orders::price::Price;
 use std::alloc::Global;
 
-// An order of the stream; its side is the number that the cell of an entry has.
+/// An order of the stream; its side is the number that the cell of an entry has.
 #[derive(Clone, Copy)]
 pub struct Limit {
     pub side: u64,
@@ -13,7 +13,7 @@ pub struct Limit {
 }
 
 impl Limit {
-    // The entry of the order: of firm 1, for the day.
+    /// The entry of the order: of firm 1, for the day.
     pub fn form(self, client: u64) -> Form {
         Form::Entry(EntryForm {
             firm: Some(1),
@@ -54,7 +54,7 @@ fn read_order(line: &str) -> Option<Limit> {
     })
 }
 
-// The orders of a text, one a line.
+/// The orders of a text, one a line.
 pub fn read_orders(heap: Global, text: &str) -> anyhow::Result<Vec<Limit>> {
     let mut orders = Vec::new(heap);
     for line in text.lines() {

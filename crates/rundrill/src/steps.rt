@@ -141,6 +141,7 @@ fn opening(day: u64) -> Form {
     Form::Opening(OpeningForm { day: Some(day) })
 }
 
+/// The first twenty steps.
 pub fn first_half() -> [Form; 20] {
     [
         plain(1, 1, Side::Buy, 200, 2000),
@@ -207,6 +208,7 @@ pub fn first_half() -> [Form; 20] {
     ]
 }
 
+/// The last twenty steps.
 pub fn second_half() -> [Form; 20] {
     [
         plain(8, 2, Side::Buy, 10, 900),

@@ -7,15 +7,15 @@ use std::alloc::Global;
 // The room of the tape, in lines, unless a case gives another.
 const TAPE_LINES: usize = 3000;
 
-// A row: its text, and the form that it names.
+/// A row: its text, and the form that it names.
 #[derive(Clone, Copy)]
 pub struct Row<'a> {
     pub text: &'a str,
     pub form: Form,
 }
 
-// A case: its name, the room of its tape, its first stamp, its rows, and the lines that are
-// expected: each row, what it writes and its reply, and last the orders that stand.
+/// A case: its name, the room of its tape, its first stamp, its rows, and the lines that are
+/// expected: each row, what it writes and its reply, and last the orders that stand.
 #[derive(Drop)]
 pub struct Case<'a> {
     pub name: &'a str,
@@ -26,7 +26,7 @@ pub struct Case<'a> {
 }
 
 impl<'a> Case<'a> {
-    // A case without rows, on a tape of the usual room and from stamp 1.
+    /// A case without rows, on a tape of the usual room and from stamp 1.
     pub fn new(heap: Global, name: &'a str) -> Case<'a> {
         Case {
             name,
@@ -37,8 +37,8 @@ impl<'a> Case<'a> {
         }
     }
 
-    // Takes a line of the file: an expected line, the room of the tape, the first stamp, a row, or
-    // none of these.
+    /// Takes a line of the file: an expected line, the room of the tape, the first stamp, a row, or
+    /// none of these.
     pub fn take_line(&mut self, heap: Global, line: &'a str) -> anyhow::Result<()> {
         if let Some(text) = line.strip_prefix("> ") {
             self.expected.push(text)?;

@@ -15,8 +15,8 @@ use tapes::tape::Tape;
 use venue::day::Day;
 use venue::setup::set_up;
 
-// What a case gives, line by line: each row, the lines that it writes and its reply; last, the
-// orders that stand.
+/// What a case gives, line by line: each row, the lines that it writes and its reply; last, the
+/// orders that stand.
 pub fn run_case(heap: Global, case: &Case) -> Result<Vec<String>, AllocError> {
     let mut got = Vec::new(heap);
     let mut tape = Tape::new(heap, case.tape)?;

@@ -2,15 +2,15 @@
 use crate::case::Case;
 use crate::case_run::run_case;
 
-// How many cases were run, and how many of them differ.
+/// How many cases were run, and how many of them differ.
 #[derive(Default, Drop)]
 pub struct Counts {
     pub cases: u32,
     pub differ: u32,
 }
 
-// Runs a case and prints whether it went as expected, or where it first differs. The lines before
-// the first case make one without a name, which is passed over.
+/// Runs a case and prints whether it went as expected, or where it first differs. The lines before
+/// the first case make one without a name, which is passed over.
 pub fn report(rt: &HostRuntime, case: &Case, counts: &mut Counts) -> anyhow::Result<()> {
     let name = case.name;
     if name.is_empty() {
@@ -30,18 +30,18 @@ pub fn report(rt: &HostRuntime, case: &Case, counts: &mut Counts) -> anyhow::Res
     Ok(())
 }
 
-// The first line, from 0, where what was expected and what came differ, or that only one of them
-// has.
+// The first line, from 0, where what was expected and what was given differ, or that only one of
+// them has.
 fn first_difference(case: &Case, got: &[String]) -> Option<usize> {
     (0..case.expected.len().max(got.len())).find(|i| expected_at(case, *i) != got_at(got, *i))
 }
 
-// The line that is expected at a place.
+// The line that is expected at a position.
 fn expected_at<'a>(case: &Case<'a>, i: usize) -> Option<&'a str> {
     case.expected.get(i).copied()
 }
 
-// The line that came at a place.
+// The line that was given at a position.
 fn got_at(got: &[String], i: usize) -> Option<&str> {
     got.get(i).map(|text| text.as_str())
 }

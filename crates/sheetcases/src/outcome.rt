@@ -7,8 +7,8 @@ use sheets::row::read_form;
 use sheets::sheet::{Drawn, Sheet};
 use std::alloc::{AllocError, Global};
 
-// A refused sheet has one answer; any other has its replies, and the values in the cells of its
-// accepted rows.
+/// A refused sheet has one answer; any other has its replies, and the values in the cells of its
+/// accepted rows.
 #[derive(Drop, PartialEq)]
 pub enum Outcome {
     Refused(Reply),
@@ -19,7 +19,7 @@ pub enum Outcome {
 }
 
 impl Outcome {
-    // Reads a sheet, and accepts every row that can be read.
+    /// Reads a sheet, and accepts every row that can be read.
     pub fn of(heap: Global, bytes: &[u8]) -> Result<Outcome, AllocError> {
         match Sheet::read(bytes) {
             Ok(sheet) => read_rows(heap, sheet),

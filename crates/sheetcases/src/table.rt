@@ -4,8 +4,8 @@ use anyhow::{Context, bail};
 use sheets::reply::Reply;
 use std::alloc::Global;
 
-// A line of the table: a name, the bytes of the sheet, and the answers that are expected: its
-// replies, and the values in the cells of its accepted rows. Bars stand between.
+/// A line of the table: a name, the bytes of the sheet, and the answers that are expected: its
+/// replies, and the values in the cells of its accepted rows. Bars stand between.
 #[derive(Drop)]
 pub struct Case<'a> {
     pub name: &'a str,
@@ -14,6 +14,7 @@ pub struct Case<'a> {
 }
 
 impl<'a> Case<'a> {
+    /// Reads a line of the table.
     pub fn read(heap: Global, line: &'a str) -> anyhow::Result<Case<'a>> {
         let (name, rest) = column(line)?;
         let (sheet, rest) = column(rest)?;
