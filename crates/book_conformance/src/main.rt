@@ -1,5 +1,4 @@
-// The strip book, the slot book, and front cards above them under the same steps: prints whether
-// they answer the same.
+// The strip book, the slot book, and front cards above them under the same steps: each call has the same answer (rules 5).
 #![tactic(auto)]
 
 ghost use Rattle.std.specs.Prelude.{◌≡◌};
@@ -27,7 +26,7 @@ fn slots_under_card() -> FrontCard<SlotBook>
     FrontCard::over(slot_book())
 }
 
-// Whether a book gave the same text as the first.
+// The word that is printed for a book: whether its answers are those of the first one.
 fn verdict(first: &str, text: &str) -> &'static str {
     if first == text { "same" } else { "differs" }
 }

@@ -1,4 +1,4 @@
-// One book, run through the steps: what each call answers, and the queues at the end, as text.
+// One book under the steps: the answer of each call, and the queues at the end, as text.
 use crate::steps::{BIDS, BUYS, OFFERS, SELLS, STEPS, Step};
 use books::book::Book;
 use books::queue::{PutError, Queue, Record};
@@ -8,7 +8,7 @@ use orders::row::{OrderRow, StopRow};
 use orders::side::{Side, Validity};
 use std::alloc::{AllocError, Global};
 
-/// A row of ten lots whose turn is its number.
+// A row of ten lots whose turn is its number.
 pub fn row(number: u32, side: Side, hundredths: u32) -> OrderRow {
     OrderRow {
         number,
@@ -77,7 +77,7 @@ fn rewrite<B: Book, F: FnOnce(Order) -> Order>(
     }
 }
 
-// A queue, as this program prints it.
+// The names of the queues as they are printed here; the crate `books` prints nothing.
 fn name(queue: Queue) -> &'static str {
     match queue {
         Queue::Orders(Side::Buy) => "bid",
@@ -153,16 +153,16 @@ fn listed<B: Book>(
     let (count, capacity) = book.size(queue);
     let line = format!(in heap; "{} {count} of {capacity}\n", name(queue))?;
     text.push_str(&line)?;
-    // By looks, not by the iterator of orders, which gives of a stop its order without the trigger.
-    for at in 0..count {
-        let record = shown(heap, book.look(queue, at))?;
+    // By looks and not by the iterator of the orders, since a stop's order lacks its trigger.
+    for index in 0..count {
+        let record = record_text(heap, book.look(queue, index))?;
         let line = format!(in heap; "{} {record}\n", name(queue))?;
         text.push_str(&line)?;
     }
     Ok(())
 }
 
-/// All that a book answers to the steps, its queues after them, and again after a clear.
+// Every answer of a book under the steps, then its queues, and these again after a clear.
 pub fn run<B: Book>(heap: Global, book: &mut B) -> Result<String, AllocError> {
     let mut text = String::new(heap);
     for step in STEPS {

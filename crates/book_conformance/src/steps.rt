@@ -2,35 +2,30 @@
 use books::queue::Queue;
 use orders::side::Side;
 
-/// Puts name a number and a price in hundredths, of a stop its trigger; the others a queue and a
-/// position, or a number. A table of values, not of closures: each step is printed by its name too.
+// Puts have a number and a price in hundredths, of a stop its trigger; the others a queue and a place, or a number.
+// A table of values, not of closures, since each step is printed by its name too.
 #[derive(Clone, Copy)]
 pub enum Step {
     Bid(u32, u32),
     Offer(u32, u32),
     BuyStop(u32, u32),
     SellStop(u32, u32),
-    // the record at a position, rewritten with a lot less
+    // The record at a place is rewritten with one lot less.
     Lower(Queue, usize),
-    // the record at a position, rewritten under another turn
+    // The record at a place is rewritten under another turn, which is refused.
     Requeue(Queue, usize),
     Take(Queue, usize),
     Find(u32),
 }
 
-/// The standing buy orders.
 pub const BIDS: Queue = Queue::Orders(Side::Buy);
 
-/// The standing sell orders.
 pub const OFFERS: Queue = Queue::Orders(Side::Sell);
 
-/// The waiting buy stops.
 pub const BUYS: Queue = Queue::Stops(Side::Buy);
 
-/// The waiting sell stops.
 pub const SELLS: Queue = Queue::Stops(Side::Sell);
 
-/// The steps, in the order in which they are done.
 pub const STEPS: [Step; 75] = [
     Step::Bid(8, 1990),
     Step::Bid(13, 2000),

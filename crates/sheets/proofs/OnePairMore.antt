@@ -1,4 +1,4 @@
--- One pair more in the check of a directory.
+-- One pair more in the search for a misplaced pair.
 use Rattle.std.proofs.Common.{◌≡◌, ℕ, suc, ◌+◌, ◌-◌, ◌<◌, List, Some, None, Option, ap, arith}
 use Rattle.sheets.specs.Layout.{pair_end, first_misplaced_from}
 use Rattle.sheets.specs.declared.directory.Directory.{Directory}

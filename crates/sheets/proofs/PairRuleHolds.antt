@@ -1,5 +1,4 @@
--- The check of a directory, pair by pair, stops at the first pair that breaks the rule, and nowhere
--- else.
+-- The search for a misplaced pair finds the first pair that breaks the pair rule, and no other.
 use Rattle.std.proofs.Common.{◌≡◌, ℕ, zero, suc, ◌+◌, ◌<◌, ◌≤◌, ◌⊎◌, List, length, Some, None, Option, sym, refl, ⊎_elim, add-one, arith}
 use Rattle.std.proofs.lemmas.Bool.{cases_eq}
 use Rattle.std.proofs.lemmas.Bool.Decides.{nat_tests}
@@ -8,8 +7,8 @@ use Rattle.sheets.specs.PairRule.{KeepsRule, FirstBreaking, PairRule}
 use Rattle.sheets.specs.declared.directory.Directory.{Directory}
 
 module _ (d : Directory) (bs : List ℕ) (n : ℕ) where
-  -- the check has come to pair k: all before it keep the rule, and `least` is where it may start
-  pub record Come (k least : ℕ) : Type 0 where
+  -- the search has reached pair k: all before it keep the rule, and it may start at `least`
+  pub record Reached (k least : ℕ) : Type 0 where
     pub within : k ≤ n
     pub behind : directory_end d n ≤ least
     pub first : k ≡ 0 → least ≡ directory_end d n
@@ -31,8 +30,8 @@ module _ (d : Directory) (bs : List ℕ) (n : ℕ) where
     inside = s.2;
   }
 
-  -- and the check comes to the next one
-  next : (k least x : ℕ) → k < n → Come k least → pair_end d bs k least ≡ Some x → Come (k + 1) x
+  -- and the search reaches the next one
+  next : (k least x : ℕ) → k < n → Reached k least → pair_end d bs k least ≡ Some x → Reached (k + 1) x
   next k least x l c p =
       let s = placed k least x p in
       record {
@@ -51,9 +50,9 @@ module _ (d : Directory) (bs : List ℕ) (n : ℕ) where
       let e : k + 1 ≡ suc k = add-one k in
       ⊎_elim (λ h. omega (arith, c.before k e, q.after k e)) (λ h. omega (arith, q.inside)) (misplaced (suc k) least p)
 
-  -- one pair: the answer of the check from here on follows from its answer from the next pair on
-  turn : (m k least : ℕ) → k < n → Come k least
-      → ((x : ℕ) → Come (k + 1) x → FirstBreaking d bs n (first_misplaced_from d bs m (k + 1) x))
+  -- the search from a pair on, by whether that pair is misplaced
+  from_pair : (m k least : ℕ) → k < n → Reached k least
+      → ((x : ℕ) → Reached (k + 1) x → FirstBreaking d bs n (first_misplaced_from d bs m (k + 1) x))
       → (o : Option ℕ) → pair_end d bs k least ≡ o
       → FirstBreaking d bs n (elim o [ Some x ↦ first_misplaced_from d bs m (k + 1) x | None ↦ Some (k + 1) ])
   from_pair m k least l c again (Some x) p = again x (next k least x l c p)

@@ -1,14 +1,13 @@
--- Pairs that keep the rule end inside, and two that name the same bytes name the same part.
-use Rattle.std.proofs.Common.{◌≡◌, ℕ, zero, suc, ◌+◌, ◌<◌, ◌≤◌, List, length, get_or, drop, Some, None, Ok, Err, Option, Result, sym, refl, ap, ◌∙◌, ⊎_elim, arith}
-use Rattle.std.proofs.lemmas.List.{length-take, length-drop, get_or-take, get_or-drop, ext_get_or}
+-- Where no pair of a directory is misplaced, each ends inside.
+use Rattle.std.proofs.Common.{◌≡◌, ℕ, zero, suc, ◌+◌, ◌<◌, ◌≤◌, List, length, Some, None, Option, refl, ap, ◌∙◌, ⊎_elim, arith}
 use Rattle.std.proofs.lemmas.Bool.{cases_eq}
 use Rattle.std.proofs.lemmas.Bool.Decides.{nat_tests}
 use Rattle.sheets.specs.Layout.{offset_at, ends_at, pair_end, first_misplaced_from}
 use Rattle.sheets.specs.declared.directory.Directory.{Directory}
 
 module _ (d : Directory) (bs : List ℕ) where
-  -- a check that finds no misplaced pair: the pair at its start keeps the rule, and it goes on from
-  -- its end
+  -- where a search finds no misplaced pair, its first pair is not misplaced, and a search from the
+  -- end of that pair finds none
   pub placed_first : (n k least : ℕ) → first_misplaced_from d bs (suc n) k least ≡ None
       → (pair_end d bs k least ≡ Some (ends_at d bs k)) × (first_misplaced_from d bs n (k + 1) (ends_at d bs k) ≡ None)
   placed_first n k least e = both (pair_end d bs k least) refl e

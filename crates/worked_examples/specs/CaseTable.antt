@@ -1,7 +1,7 @@
--- The worked cases (rules 18).
+-- The table of worked cases (rules 18).
 use Rattle.std.specs.Prelude.{List, [], ◌∷◌}
 use Rattle.std.specs.List.{AllByRecursion}
-use Rattle.tapes.specs.declared.cause.Cause.TheVariants.{NewOrder, ShortReach, OwnInvestor}
+use Rattle.tapes.specs.declared.cause.Cause.TheVariants.{Requested, ShortReach, OwnInvestor}
 use Rattle.worked_examples.specs.CaseWords.{Case, CaseHolds, entry, buy, sell, disclosing, for_investor, fok, sell_at_market, buy_stop, change, cancel, A, R, S, T, C, rest}
 
 -- A bid changed upwards: a bid of 200 at 20,00 stands
@@ -48,13 +48,13 @@ bid_cancelled = record {
       ∷ entry 2 (sell 100 2100) ∷ cancel 1 ∷ [];
   lines =
       A 1 2000 200 ∷ A 2 2000 100 ∷ T 2 1 2000 100 ∷ R 1 2100 300 ∷ A 4 2100 100 ∷ T 4 1 2100 100
-      ∷ C 1 2100 100 NewOrder ∷ [];
+      ∷ C 1 2100 100 Requested ∷ [];
   left = [] ∷ [] ∷ [] ∷ [] ∷ [];
 }
 
--- a FOK against a bid that is too small: it is cancelled whole, and the bid is as it was
-abbrev pub all_or_nothing : Case
-all_or_nothing = record {
+-- A FOK that finds too little: cancelled whole, and the bid stays
+abbrev pub fok_short : Case
+fok_short = record {
   steps = entry 1 (buy 200 2000) ∷ entry 2 (fok (sell 400 2000)) ∷ [];
   lines = A 1 2000 200 ∷ A 2 2000 400 ∷ C 2 2000 400 ShortReach ∷ [];
   left = (rest 1 2000 200 200 ∷ []) ∷ [] ∷ [] ∷ [] ∷ [];
@@ -68,7 +68,7 @@ market_sale = record {
   left = [] ∷ (rest 2 2000 100 100 ∷ []) ∷ [] ∷ [] ∷ [];
 }
 
--- an order that is refilled goes behind its price
+-- A refill goes behind its price
 abbrev pub refill_behind : Case
 refill_behind = record {
   steps =
@@ -80,7 +80,7 @@ refill_behind = record {
   left = [] ∷ (rest 1 1000 50 150 ∷ []) ∷ [] ∷ [] ∷ [];
 }
 
--- an order of one's own investor is in the way: the reach is the 100 shown ahead of it
+-- One's own investor in the way of a FOK: the reach is the 100 shown ahead of it
 abbrev pub own_in_the_way : Case
 own_in_the_way = record {
   steps =
@@ -101,12 +101,16 @@ own_met = record {
   left = [] ∷ (rest 2 1000 50 50 ∷ rest 1 1000 100 200 ∷ []) ∷ [] ∷ [] ∷ [];
 }
 
--- a buy stop triggers
-abbrev pub stop_fires : Case
-stop_fires = record {
-  steps = entry 1 (stop 1 200 2520 2530) ∷ entry 2 (sell 100 2520) ∷ entry 3 (sell 100 2530) ∷ entry 4 (buy 40 2520) ∷ [];
-  lines = A 1 2530 200 ∷ A 2 2520 100 ∷ A 3 2530 100 ∷ A 4 2520 40 ∷ T 4 2 2520 40 ∷ S 1 2530 200 ∷ T 1 2 2520 60 ∷ T 1 3 2530 100 ∷ [];
-  open_lots = (rest 1 2530 40 40 ∷ []) ∷ [] ∷ [] ∷ [] ∷ [];
+-- A stop set off: the trade at 25,20 makes it ripe
+abbrev pub stop_triggered : Case
+stop_triggered = record {
+  steps =
+      entry 1 (buy_stop 200 2520 2530) ∷ entry 2 (sell 100 2520) ∷ entry 3 (sell 100 2530)
+      ∷ entry 4 (buy 40 2520) ∷ [];
+  lines =
+      A 1 2530 200 ∷ A 2 2520 100 ∷ A 3 2530 100 ∷ A 4 2520 40 ∷ T 4 2 2520 40 ∷ S 1 2530 200
+      ∷ T 1 2 2520 60 ∷ T 1 3 2530 100 ∷ [];
+  left = (rest 1 2530 40 40 ∷ []) ∷ [] ∷ [] ∷ [] ∷ [];
 }
 
 abbrev pub table : List Case

@@ -1,4 +1,4 @@
--- How the worked cases are written: forms, lines, and the orders and stops left (rules 18).
+-- How the worked cases are written: forms, lines, and the records that are left in the queues.
 use Rattle.std.specs.Prelude.{◌≡◌, ℕ, List, [], ◌∷◌, map, reverse, Some, None, Option}
 use Rattle.orders.specs.declared.price.Price.{Price}
 use Rattle.orders.specs.declared.order.Order.{Order}
@@ -60,13 +60,11 @@ buy quantity hundredths = limit_order 1 quantity hundredths
 abbrev pub sell : (quantity hundredths : ℕ) → EntryTerms
 sell quantity hundredths = limit_order 2 quantity hundredths
 
--- the same as FOK: validity 4
-abbrev pub fok : Ask → Ask
-fok a = record { side = a.side; order_type = a.order_type; validity = 4; limit = a.limit; trigger = a.trigger; quantity = a.quantity; disclosed = a.disclosed; investor = a.investor }
+abbrev pub disclosing : ℕ → EntryTerms → EntryTerms
+disclosing disclosed terms = record terms { disclosed = disclosed }
 
--- a market order, whose leftover is a limit order: type K
-abbrev pub market : (side quantity : ℕ) → Ask
-market side quantity = record { side = side; order_type = 75; validity = 0; limit = None; trigger = None; quantity = quantity; disclosed = 0; investor = 0 }
+abbrev pub for_investor : ℕ → EntryTerms → EntryTerms
+for_investor investor terms = record terms { investor = investor }
 
 -- fill or kill: validity 4
 abbrev pub fok : EntryTerms → EntryTerms

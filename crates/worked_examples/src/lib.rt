@@ -3,7 +3,7 @@
 
 ghost use Rattle.worked_examples.specs.CaseTable.{WorkedCases};
 
-/// Every case of the table gives the lines, and the orders and stops left, that it says (rules 18).
+/// Every case of the table holds: its steps write exactly its lines and leave exactly its records.
 pub fn worked_cases()
     ensures { WorkedCases }
 {}
