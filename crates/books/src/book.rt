@@ -1,6 +1,7 @@
 // What a book is: four queues, and seven functions over them (rules 5).
 ghost use Rattle.std.specs.Prelude.{◌≡◌, ℕ, true};
 ghost use Rattle.books.specs.Model.{Queues, Bounded, count, capacity, look_at, found, put_answer, after_put, rewrite_allowed, rewritten, taken, cleared, holds_client};
+ghost use Rattle.books.specs.BookLimits.{BookLimits};
 
 use crate::queue::{PutError, Queue, Record};
 
@@ -59,3 +60,8 @@ pub trait Book {
     /// No count passes its capacity, and no capacity a million.
     ghost bounded: { (book : Self) → Bounded (queues book) };
 }
+
+/// The most records of a queue are the published ones.
+pub fn book_limits()
+    ensures { BookLimits }
+{}

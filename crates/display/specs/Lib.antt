@@ -1,1 +1,2 @@
 pub mod PrintedTexts
+pub mod PrintedKinds

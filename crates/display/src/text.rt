@@ -1,6 +1,7 @@
 // Prices, lines of the tape, replies and standing orders as text.
 ghost use Rattle.std.specs.Prelude.{◌≡◌, Some};
 ghost use Rattle.display.specs.PrintedTexts.{price_text, price_of, for_order, with_other, with_cause, fields, fields_text, answer_text, reply_text, side_text, standing_text};
+ghost use Rattle.display.specs.PrintedKinds.{PrintedKinds};
 
 use orders::order::Order;
 use orders::price::Price;
@@ -204,3 +205,8 @@ impl fmt::Display for StandingText {
         write!(f, "{name} {number} {price} {shown} {open}")
     }
 }
+
+/// The letters of the lines are the published ones.
+pub fn printed_kinds()
+    ensures { PrintedKinds }
+{}

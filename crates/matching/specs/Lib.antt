@@ -6,3 +6,4 @@ pub mod Entering
 pub mod Changing
 pub mod Removing
 pub mod MatchStates
+pub mod StampLimits

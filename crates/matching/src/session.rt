@@ -1,6 +1,7 @@
 // The session of a venue, which outlives closing and opening.
 ghost use Rattle.std.specs.Prelude.{◌≡◌};
 ghost use Rattle.matching.specs.Sessions.{stamp_drawn, undrawn_stamps, session_from};
+ghost use Rattle.matching.specs.StampLimits.{StampLimits};
 
 use orders::price::Price;
 
@@ -44,3 +45,8 @@ impl Session {
         STAMPS_END.saturating_sub(self.next_stamp)
     }
 }
+
+/// The stamps end where it is published.
+pub fn stamp_limits()
+    ensures { StampLimits }
+{}

@@ -5,3 +5,4 @@ pub mod Rows
 pub mod Ranks
 pub mod Lots
 pub mod RanksLemmas
+pub mod OrderLimits

@@ -1,6 +1,7 @@
 // Orders and stops, whose bounds are part of their types (rules 3).
 ghost use Rattle.std.specs.Prelude.{◌≡◌, ◌+◌, ◌*◌, ◌≤◌};
 ghost use Rattle.orders.specs.declared.order.TheConstants.{MOST_LOTS, HIDDEN_PARTS};
+ghost use Rattle.orders.specs.OrderLimits.{OrderLimits};
 
 use crate::price::Price;
 use crate::side::{Side, Validity};
@@ -56,3 +57,8 @@ pub struct Stop {
     pub order: Order,
     pub trigger: Price,
 }
+
+/// The limits of orders and prices are the published ones.
+pub fn order_limits()
+    ensures { OrderLimits }
+{}

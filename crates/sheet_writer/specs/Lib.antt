@@ -4,3 +4,4 @@ pub mod PartLists
 pub mod WrittenRows
 pub mod Drafts
 pub mod WorkedSheet
+pub mod RowLimits

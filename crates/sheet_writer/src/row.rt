@@ -9,6 +9,7 @@ ghost use Rattle.sheet_writer.specs.CellTexts.{letter, letter_byte, cells, text,
 ghost use Rattle.sheet_writer.specs.PartLists.{Packs};
 ghost use Rattle.sheet_writer.specs.WorkedSheet.{WorkedSheet};
 ghost use Rattle.sheet_writer.specs.WrittenRows.{row_if_fits};
+ghost use Rattle.sheet_writer.specs.RowLimits.{RowLimits};
 
 use crate::cell::Cell;
 use crate::parts::Parts;
@@ -147,4 +148,9 @@ pub fn write_row(heap: Global, form: Form) -> Result<Option<Vec<u8>>, AllocError
 /// The worked sheet of specs/WorkedSheet.antt is written as it says. It does nothing when it runs.
 pub fn worked_sheet()
     ensures { WorkedSheet }
+{}
+
+/// A row has at most as many bytes as its directory can name.
+pub fn row_limits()
+    ensures { RowLimits }
 {}

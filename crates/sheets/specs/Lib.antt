@@ -8,3 +8,4 @@ pub mod GoodCells
 pub mod Replies
 pub mod Rows
 pub mod Sheets
+pub mod SheetLimits

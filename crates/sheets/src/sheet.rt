@@ -2,6 +2,7 @@
 ghost use Rattle.std.specs.Prelude.{◌≡◌, ◌+◌, IfOk, MatchOption};
 ghost use Rattle.std.specs.Result.{result_err};
 ghost use Rattle.sheets.specs.Sheets.{row_count, sheet_refusal, JustRead, next_row, IsDrawn, after_draw, rows_left};
+ghost use Rattle.sheets.specs.SheetLimits.{SheetLimits};
 
 use super::bytes::word_at;
 use super::directory::Directory;
@@ -90,3 +91,8 @@ impl<'a> Sheet<'a> {
         })
     }
 }
+
+/// The limits and letters of a sheet are the published ones.
+pub fn sheet_limits()
+    ensures { SheetLimits }
+{}

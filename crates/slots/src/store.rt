@@ -3,6 +3,7 @@
 
 ghost use Rattle.std.specs.Prelude.{◌≡◌, ◌<◌, ◌≤◌, [], ◌∷◌, ◌++◌, length, take, drop, None, slice_index_or};
 ghost use Rattle.slots.specs.SlotContents.{slot_rows, slot_contents};
+ghost use Rattle.slots.specs.SlotLimits.{SlotLimits};
 
 use crate::slots::{count_in, find_in, free_near, gap_of, has_client_in, look_in, slot_of};
 use books::queue_store::QueueStore;
@@ -91,3 +92,8 @@ fn put_at<T: Copy>(slots: &mut [Option<T>], gap: usize, free: usize, row: T)
         slots[gap..=free].rotate_right(1);
     }
 }
+
+/// A queue has the published count of slots.
+pub fn slot_limits()
+    ensures { SlotLimits }
+{}

@@ -3,3 +3,4 @@ pub mod Combinations
 pub mod Entries
 pub mod Changes
 pub mod Removals
+pub mod CellRanges

@@ -6,6 +6,7 @@ ghost use Rattle.orders.specs.Sides.{unknown_code};
 ghost use Rattle.forms.specs.declared.refusal.Refusal.TheVariants.{WrongBlank};
 ghost use Rattle.forms.specs.Results.{and_then};
 ghost use Rattle.validation.specs.Cells.{in_range, number_in, side_in, validity_in, type_of, price_in, if_filled};
+ghost use Rattle.validation.specs.CellRanges.{CellRanges};
 
 use forms::refusal::Refusal;
 use orders::price::Price;
@@ -115,3 +116,8 @@ pub fn price_if_filled(at: u8, cell: Option<Price>) -> Result<Option<Price>, Ref
         _ => Ok(cell),
     }
 }
+
+/// The ranges of cells are the published ones.
+pub fn cell_ranges()
+    ensures { CellRanges }
+{}

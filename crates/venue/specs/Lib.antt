@@ -2,3 +2,4 @@ pub mod Rooms
 pub mod Known
 pub mod Steps
 pub mod Days
+pub mod RoomLimits

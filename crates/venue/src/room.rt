@@ -2,6 +2,7 @@
 ghost use Rattle.std.specs.Prelude.{◌≡◌, ◌*◌, ◌≤◌};
 ghost use Rattle.books.specs.Model.{count};
 ghost use Rattle.venue.specs.Rooms.{needed, lines_free, stamps_free};
+ghost use Rattle.venue.specs.RoomLimits.{RoomLimits};
 
 use books::book::Book;
 use books::queue::Queue;
@@ -54,3 +55,8 @@ pub fn stamps_free<B: Book>(book: &B, session: Session) -> Result<(), Refusal>
         Ok(())
     }
 }
+
+/// A record needs the published count of lines and stamps.
+pub fn room_limits()
+    ensures { RoomLimits }
+{}
