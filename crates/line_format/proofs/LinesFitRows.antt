@@ -1,11 +1,12 @@
 -- What a line asks for has room in the cells of a row.
+use Rattle.std.specs.Char.{is_ascii_digit}
 use Rattle.std.proofs.Common.{◌≡◌, ℕ, zero, suc, ◌+◌, ◌*◌, ◌^◌, ◌<◌, ◌≤◌, Bool, true, false, ◌&&◌, cond, List, length, get_or, set, replicate, take, drop, Some, None, Ok, Err, Option, Result, ap, refl, subst, [], ◌∷◌, take-take, lt-ltb, arith}
 use Rattle.std.proofs.lemmas.List.{length-take}
 use Rattle.std.proofs.lemmas.List.Sums.{prefix_len-le-length}
 use Rattle.std.specs.Prelude.{◌==◌, nat_lt, codes}
 use Rattle.std.specs.Str.{bytes_eq}
 use Rattle.std.specs.Str.Parse.{digits_value}
-use Rattle.sheets.specs.Cells.{is_digit, is_blank, digits, digits_number}
+use Rattle.sheets.specs.Cells.{is_blank, digits, digits_number}
 use Rattle.sheets.specs.FormBounds.{number_in_bounds, price_in_bounds, form_in_bounds}
 use Rattle.sheets.specs.declared.letter.Letter.{Letter}
 use Rattle.sheets.specs.declared.letter.Letter.TheVariants.{Entry, Change, Cancel, MassCancel, Closing, Opening}
@@ -36,7 +37,7 @@ AllFit cells = (k : ℕ) → value_fits (get_or cells k None) ≡ true
 -- the digits that are read, at most k of them, write less than 10 ^ k
 written_small : (k : ℕ) (bs : List ℕ) → digits_number k bs < 10 ^ k
 written_small k bs =
-    let few : digits k bs ≤ k = omega (arith, prefix_len-le-length is_digit (take k bs), length-take k bs) in
+    let few : digits k bs ≤ k = omega (arith, prefix_len-le-length is_ascii_digit (take k bs), length-take k bs) in
     let same : take (digits k bs) (take k bs) ≡ take (digits k bs) bs = take-take (digits k bs) k bs few in
     subst (λ (ds : List ℕ). digits_value 10 ds < 10 ^ k) same
     (short (take (digits k bs) (take k bs)) k (front_digits (take k bs)) (omega (arith, length-take (digits k bs) (take k bs))))

@@ -12,7 +12,7 @@ Asks line form = read_line line ≡ Ok (Some form)
 abbrev pub Spoilt : (line : List ℕ) → (place length : ℕ) → Type 0
 Spoilt line place length = read_line line ≡ Err (record { place = place; length = length })
 
--- the worked lines (lines 1)
+-- what is read of each line (lines 1)
 pub record WorkedLines : Type 0 where
   pub no_words : read_line (codes "") ≡ Ok None
   pub spaces : read_line (codes "   ") ≡ Ok None

@@ -22,6 +22,7 @@ pub(crate) struct Column {
     pub(crate) kind: CellKind,
 }
 
+// The columns of an entry.
 const ENTRY: [(&[u8], CellKind); MOST_CELLS] = [
     (b"firm", CellKind::Number),
     (b"client", CellKind::Number),
@@ -37,6 +38,7 @@ const ENTRY: [(&[u8], CellKind); MOST_CELLS] = [
     (b"tag", CellKind::Number),
 ];
 
+// The columns of a change.
 const CHANGE: [(&[u8], CellKind); 7] = [
     (b"firm", CellKind::Number),
     (b"client", CellKind::Number),
@@ -47,8 +49,10 @@ const CHANGE: [(&[u8], CellKind); 7] = [
     (b"validity", CellKind::Validity),
 ];
 
+// The columns of a cancel.
 const CANCEL: [(&[u8], CellKind); 2] = [(b"firm", CellKind::Number), (b"number", CellKind::Number)];
 
+// The columns of a mass cancel.
 const MASS_CANCEL: [(&[u8], CellKind); 4] = [
     (b"firm", CellKind::Number),
     (b"side", CellKind::Side),
@@ -56,6 +60,7 @@ const MASS_CANCEL: [(&[u8], CellKind); 4] = [
     (b"investor", CellKind::Number),
 ];
 
+// The column of an opening.
 const OPENING: [(&[u8], CellKind); 1] = [(b"day", CellKind::Number)];
 
 // The columns of a letter in the order of its cells: the name, and how the value is written.

@@ -17,7 +17,7 @@ pub record SheetRun : Type 0 where
   pub replies : List Reply
   pub room : ℕ
 
--- a venue and its list of replies together
+-- a venue with the replies that a list has
 abbrev pub sheet_run : State → Replies → SheetRun
 sheet_run venue replies = record { venue = venue; replies = posted replies; room = replies.limit }
 
@@ -53,11 +53,11 @@ abbrev pub or_no_replies : (rows free : ℕ) → Option Refusal → Option Refus
 or_no_replies rows free (Some refusal) = Some refusal
 or_no_replies rows free None = if nat_lt free rows then Some NoReplies else None
 
--- what a sheet is refused with before any row is worked, where so many replies are free (sheets 6)
+-- the refusal of a sheet before any row is worked, where so many replies are free (sheets 6)
 abbrev pub refusal_before_rows : (sheet : List ℕ) → (free : ℕ) → Option Refusal
 refusal_before_rows sheet free = or_no_replies (word sheet 0) free (sheet_refusal sheet)
 
--- what a sheet is refused with at a venue, by the replies that are free (sheets 6)
+-- what a sheet is refused with before any row is worked (sheets 6)
 abbrev pub sheet_answer : (sheet : List ℕ) → SheetRun → Option Refusal
 sheet_answer sheet run = refusal_before_rows sheet (run.room - length run.replies)
 

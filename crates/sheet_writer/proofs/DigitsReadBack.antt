@@ -1,4 +1,5 @@
 -- A number or a price that is written reads as it was.
+use Rattle.std.specs.Char.{is_ascii_digit}
 use Rattle.std.proofs.Common.{◌≡◌, ℕ, zero, suc, ◌+◌, ◌*◌, ◌/◌, ◌%◌, ◌<◌, ◌≤◌, Bool, true, false, List, [], ◌∷◌, ◌++◌, length, get_or, take, drop, Some, None, Ok, sym, ap, ◌∙◌, refl, ltb-true, append-nil, take_all, take_at, drop_at, drop-drop, length-append, arith}
 use Rattle.std.proofs.lemmas.Bool.Decides.{nat_tests}
 use Rattle.std.proofs.lemmas.Fmt.{decimal_is_IsNumeral, length-decimal-le, decimal_digit}
@@ -13,14 +14,14 @@ use Rattle.display.specs.PrintedTexts.{price_text}
 use Rattle.sheet_writer.specs.declared.cell.Cell.{Cell}
 use Rattle.sheet_writer.specs.declared.cell.Cell.TheVariants.{Number, OneByte, Price}
 use Rattle.sheet_writer.specs.CellTexts.{text, has_room}
-use Rattle.sheets.specs.Cells.{is_digit, digits, read_number, read_price, read_cents}
+use Rattle.sheets.specs.Cells.{digits, read_number, read_price, read_cents}
 
 -- a digit by its value is a digit by its byte
-digit_byte : (c : ℕ) (cs : List ℕ) → AllDigits 10 (c ∷ cs) → is_digit c ≡ true
+digit_byte : (c : ℕ) (cs : List ℕ) → AllDigits 10 (c ∷ cs) → is_ascii_digit c ≡ true
 digit_byte c cs all = let r = digit_from_value c all.0 in grind (arith, nat_tests)
 
 -- digits count up to the first byte that is none
-pub digits_before : (most : ℕ) (ds rest : List ℕ) → AllDigits 10 ds → length ds ≤ most → is_digit (get_or rest 0 0) ≡ false
+pub digits_before : (most : ℕ) (ds rest : List ℕ) → AllDigits 10 ds → length ds ≤ most → is_ascii_digit (get_or rest 0 0) ≡ false
     → digits most (ds ++ rest) ≡ length ds
 digits_before zero [] rest all few stop = refl
 digits_before (suc m) [] [] all few stop = refl
@@ -45,7 +46,7 @@ number_back n small =
     rw (some, same, whole, all) (ap (λ (v : ℕ). Ok (Some v)) d.1)
 
 -- a digit and its value
-digit_is : (t : ℕ) → t < 10 → is_digit (48 + t) ≡ true
+digit_is : (t : ℕ) → t < 10 → is_ascii_digit (48 + t) ≡ true
 digit_is t small = grind (arith, nat_tests)
 
 value_is : (t : ℕ) → t < 10 → digit_value (48 + t) ≡ t

@@ -1,4 +1,5 @@
 -- Digits, and the number that they write.
+use Rattle.std.specs.Char.{is_ascii_digit}
 use Rattle.std.proofs.Common.{◌≡◌, ℕ, ◌+◌, ◌*◌, ◌-◌, ◌^◌, ◌<◌, ◌≤◌, Bool, true, false, cond, List, [], ◌∷◌, length, get_or, take, ap, ◌∙◌, refl, one-add, arith}
 use Rattle.std.proofs.lemmas.Int.Digits.{digits_value_more}
 use Rattle.std.proofs.lemmas.Str.{digit_value_digit}
@@ -7,15 +8,14 @@ use Rattle.std.proofs.lemmas.Bool.Decides.{nat_tests}
 use Rattle.std.specs.Char.{digit_value}
 use Rattle.std.specs.List.{prefix_len}
 use Rattle.std.specs.Str.Parse.{AllDigits, digits_value}
-use Rattle.sheets.specs.Cells.{is_digit}
 
 -- what stands at the front is digits
-pub front_digits : (xs : List ℕ) → AllDigits 10 (take (prefix_len is_digit xs) xs)
+pub front_digits : (xs : List ℕ) → AllDigits 10 (take (prefix_len is_ascii_digit xs) xs)
 front_digits [] = tt
-front_digits (x ∷ xs) = first (is_digit x) refl (front_digits xs)
+front_digits (x ∷ xs) = first (is_ascii_digit x) refl (front_digits xs)
   where
-    first : (t : Bool) → is_digit x ≡ t → AllDigits 10 (take (prefix_len is_digit xs) xs)
-        → AllDigits 10 (take (cond t (1 + prefix_len is_digit xs) 0) (x ∷ xs))
+    first : (t : Bool) → is_ascii_digit x ≡ t → AllDigits 10 (take (prefix_len is_ascii_digit xs) xs)
+        → AllDigits 10 (take (cond t (1 + prefix_len is_ascii_digit xs) 0) (x ∷ xs))
     first true e more = rw one-add (grind (arith, nat_tests), more)
     first false e more = tt
 

@@ -1,11 +1,12 @@
 -- Number, price and type cells: a value comes from a good cell, and a refusal names the first wrong
 -- byte.
+use Rattle.std.specs.Char.{is_ascii_digit}
 use Rattle.std.proofs.Common.{◌≡◌, ℕ, zero, suc, ◌+◌, ◌-◌, ◌*◌, ◌<◌, ◌≤◌, Bool, true, false, cond, ◌&&◌, eqb, ltb, List, [], ◌∷◌, ◌++◌, length, get_or, take, drop, replicate, Some, None, Ok, Err, sym, refl, ap, ◌∙◌, subst, ⊎_elim, arith, lit≤, ltb-false, ltb-true, eqb-true}
 use borrow.Author.Tests.{eqb-false}
 use Rattle.std.proofs.lemmas.List.{length-drop, length-replicate, get_or-replicate, get_or-drop, get_or_past, nil_from_length}
 use Rattle.std.proofs.lemmas.Bool.{cases_eq, cases_lt, true≢false}
 use Rattle.orders.specs.declared.price.Price.{Price}
-use Rattle.sheets.specs.Cells.{is_digit, digits, digits_number, is_blank, read_number, read_price, read_type}
+use Rattle.sheets.specs.Cells.{digits, digits_number, is_blank, read_number, read_price, read_type}
 use Rattle.sheets.specs.GoodCells.{GoodNumber, GoodPrice, GoodType, Begins, FirstWrong, ReadByFormat, CellsReadByFormat}
 use Rattle.sheets.proofs.FrontDigits.{within_most, within_cell, digit_at, stops_at, length_put, front_put, back_put}
 
@@ -14,8 +15,8 @@ clash : (b : Bool) → b ≡ true → b ≡ false → ⊥
 clash b p q = true≢false (sym p ∙ q)
 
 -- zeros are digits
-zeros : (k i : ℕ) → i < k → is_digit (get_or (replicate k 48) i 0) ≡ true
-zeros k i h = ap is_digit (get_or-replicate k i 48 0 h)
+zeros : (k i : ℕ) → i < k → is_ascii_digit (get_or (replicate k 48) i 0) ≡ true
+zeros k i h = ap is_ascii_digit (get_or-replicate k i 48 0 h)
 
 module _ (bs : List ℕ) where
   -- a number: n digits stand at its front
@@ -27,8 +28,8 @@ module _ (bs : List ℕ) where
         some = omega arith;
         few = omega arith;
         digits = λ i k. ⊎_elim
-            (λ less. ap is_digit (front_put bs (replicate r 48) n w i less) ∙ digit_at 12 bs i (omega arith))
-            (λ more. ap is_digit (back_put bs (replicate r 48) n w i more) ∙ zeros r (i - n) (omega arith))
+            (λ less. ap is_ascii_digit (front_put bs (replicate r 48) n w i less) ∙ digit_at 12 bs i (omega arith))
+            (λ more. ap is_ascii_digit (back_put bs (replicate r 48) n w i more) ∙ zeros r (i - n) (omega arith))
             (cases_lt i n);
       }
 
@@ -44,8 +45,8 @@ module _ (bs : List ℕ) where
       let n = digits 12 bs in
       let w : n + 1 ≤ length bs = omega arith in
       let l = length_put bs rest (n + 1) w in
-      clash (is_digit (get_or bs n 0))
-      (ap is_digit (sym (front_put bs rest (n + 1) w n (omega arith))) ∙ g.digits n (omega arith))
+      clash (is_ascii_digit (get_or bs n 0))
+      (ap is_ascii_digit (sym (front_put bs rest (n + 1) w n (omega arith))) ∙ g.digits n (omega arith))
       (stops_at 12 bs (omega (arith, g.few)) h)
 
   number_by_format : ReadByFormat GoodNumber bs (read_number bs)
@@ -67,30 +68,30 @@ module _ (bs : List ℕ) where
           record {
             right = digits 12 bs;
             counted = refl;
-            bad = λ g. clash (is_digit (get_or bs (digits 12 bs) 0)) (g.digits (digits 12 bs) less)
+            bad = λ g. clash (is_ascii_digit (get_or bs (digits 12 bs) 0)) (g.digits (digits 12 bs) less)
                 (stops_at 12 bs (omega (arith, g.few)) less);
             begins = begins_number (digits 12 bs) (omega arith);
             ends = λ h b. number_ends h b.0 b.1;
           }
 
 -- in a good price every byte before the comma is a digit, and no other byte is a comma
-before_comma : (xs : List ℕ) (g : GoodPrice xs) (n : ℕ) → ((i : ℕ) → i < n → is_digit (get_or xs i 0) ≡ true) → n ≤ g.whole
+before_comma : (xs : List ℕ) (g : GoodPrice xs) (n : ℕ) → ((i : ℕ) → i < n → is_ascii_digit (get_or xs i 0) ≡ true) → n ≤ g.whole
 before_comma xs g n dig = ⊎_elim
-    (λ less. absurd (clash (is_digit (get_or xs g.whole 0)) (dig g.whole less) (ap is_digit g.comma)))
+    (λ less. absurd (clash (is_ascii_digit (get_or xs g.whole 0)) (dig g.whole less) (ap is_ascii_digit g.comma)))
     (λ more. more) (cases_lt g.whole n)
 
 at_comma : (xs : List ℕ) (g : GoodPrice xs) (n : ℕ) → n < length xs → get_or xs n 0 ≡ 44 → n ≡ g.whole
 at_comma xs g n h e = ⊎_elim (λ same. same)
-    (λ ne. absurd (clash (is_digit (get_or xs n 0)) (g.digits n h ne) (ap is_digit e))) (cases_eq n g.whole)
+    (λ ne. absurd (clash (is_ascii_digit (get_or xs n 0)) (g.digits n h ne) (ap is_ascii_digit e))) (cases_eq n g.whole)
 
 -- a comma and two digits, after one digit at least
-tail : (k : ℕ) → 1 ≤ k → k < 3 → is_digit (get_or (44 ∷ (48 ∷ (48 ∷ []))) k 0) ≡ true
+tail : (k : ℕ) → 1 ≤ k → k < 3 → is_ascii_digit (get_or (44 ∷ (48 ∷ (48 ∷ []))) k 0) ≡ true
 tail zero some few = absurd (omega arith)
 tail (suc zero) some few = refl
 tail (suc (suc zero)) some few = refl
 tail (suc (suc (suc k))) some few = absurd (omega arith)
 
-least : (i : ℕ) → i < 4 → (i ≡ 1 → ⊥) → is_digit (get_or (48 ∷ (44 ∷ (48 ∷ (48 ∷ [])))) i 0) ≡ true
+least : (i : ℕ) → i < 4 → (i ≡ 1 → ⊥) → is_ascii_digit (get_or (48 ∷ (44 ∷ (48 ∷ (48 ∷ [])))) i 0) ≡ true
 least zero h ne = refl
 least (suc zero) h ne = absurd (ne refl)
 least (suc (suc zero)) h ne = refl
@@ -116,8 +117,8 @@ module _ (bs : List ℕ) where
           long = omega (arith, l);
           comma = let z : n - n ≡ 0 = omega arith in back_put bs rest n w n (omega arith) ∙ ap (λ k. get_or rest k 0) z;
           digits = λ i h ni. ⊎_elim
-              (λ less. ap is_digit (front_put bs rest n w i less) ∙ digit_at 6 bs i less)
-              (λ more. ap is_digit (back_put bs rest n w i more) ∙ tail (i - n) (omega arith) (omega arith))
+              (λ less. ap is_ascii_digit (front_put bs rest n w i less) ∙ digit_at 6 bs i less)
+              (λ more. ap is_ascii_digit (back_put bs rest n w i more) ∙ tail (i - n) (omega arith) (omega arith))
               (cases_lt i n);
         },
       ))
@@ -128,11 +129,11 @@ module _ (bs : List ℕ) where
       → (xs : List ℕ) → ((i : ℕ) → i < digits 6 bs + 1 → get_or xs i 0 ≡ get_or bs i 0) → GoodPrice xs → ⊥
   wrong_whole nc h xs same g =
       let n = digits 6 bs in
-      let le : n ≤ g.whole = before_comma xs g n (λ i k. ap is_digit (same i (omega arith)) ∙ digit_at 6 bs i k) in
+      let le : n ≤ g.whole = before_comma xs g n (λ i k. ap is_ascii_digit (same i (omega arith)) ∙ digit_at 6 bs i k) in
       ⊎_elim
       (λ e. nc (omega (arith, g.some)) (sym (same n (omega arith)) ∙ ap (λ k. get_or xs k 0) e ∙ g.comma))
-      (λ ne. clash (is_digit (get_or bs n 0))
-      (ap is_digit (sym (same n (omega arith))) ∙ g.digits n (omega (arith, g.long)) ne)
+      (λ ne. clash (is_ascii_digit (get_or bs n 0))
+      (ap is_ascii_digit (sym (same n (omega arith))) ∙ g.digits n (omega (arith, g.long)) ne)
       (stops_at 6 bs (omega (arith, g.few)) h))
       (cases_eq n g.whole)
 
@@ -160,11 +161,11 @@ module _ (bs : List ℕ) (some : 1 ≤ digits 6 bs) (comma : get_or bs (digits 6
   length_cents : length (cents bs) ≡ length bs - (digits 6 bs + 1)
   length_cents = length-drop (digits 6 bs + 1) bs
 
-  cent_at : (i : ℕ) → digits 6 bs < i → i < digits 6 bs + 1 + digits 2 (cents bs) → is_digit (get_or bs i 0) ≡ true
+  cent_at : (i : ℕ) → digits 6 bs < i → i < digits 6 bs + 1 + digits 2 (cents bs) → is_ascii_digit (get_or bs i 0) ≡ true
   cent_at i l h =
       let n = digits 6 bs in
       let e : n + 1 + (i - (n + 1)) ≡ i = omega arith in
-      ap (λ k. is_digit (get_or bs k 0)) (sym e) ∙ ap is_digit (sym (get_or-drop (n + 1) bs (i - (n + 1)) 0))
+      ap (λ k. is_ascii_digit (get_or bs k 0)) (sym e) ∙ ap is_ascii_digit (sym (get_or-drop (n + 1) bs (i - (n + 1)) 0))
       ∙ digit_at 2 (cents bs) (i - (n + 1)) (omega arith)
 
   begins_cents : Begins GoodPrice (take (digits 6 bs + 1 + digits 2 (cents bs)) bs)
@@ -184,9 +185,9 @@ module _ (bs : List ℕ) (some : 1 ≤ digits 6 bs) (comma : get_or bs (digits 6
           long = omega (arith, l);
           comma = front_put bs rest (n + 1 + m) w n (omega arith) ∙ comma;
           digits = λ i h ni. ⊎_elim
-              (λ less. ap is_digit (front_put bs rest (n + 1 + m) w i less)
+              (λ less. ap is_ascii_digit (front_put bs rest (n + 1 + m) w i less)
               ∙ ⊎_elim (λ front. digit_at 6 bs i front) (λ more. cent_at i (omega arith) less) (cases_lt i n))
-              (λ more. ap is_digit (back_put bs rest (n + 1 + m) w i more) ∙ zeros (2 - m) (i - (n + 1 + m)) (omega arith))
+              (λ more. ap is_ascii_digit (back_put bs rest (n + 1 + m) w i more) ∙ zeros (2 - m) (i - (n + 1 + m)) (omega arith))
               (cases_lt i (n + 1 + m));
         },
       )
@@ -199,9 +200,9 @@ module _ (bs : List ℕ) (some : 1 ≤ digits 6 bs) (comma : get_or bs (digits 6
       let n = digits 6 bs in
       let m = digits 2 (cents bs) in
       let e : n ≡ g.whole = at_comma xs g n long (same n (omega arith) ∙ comma) in
-      clash (is_digit (get_or bs (n + 1 + m) 0))
-      (ap is_digit (sym (same (n + 1 + m) (omega arith))) ∙ g.digits (n + 1 + m) (omega (arith, g.long)) (λ k. omega arith))
-      (ap is_digit (sym (get_or-drop (n + 1) bs m 0)) ∙ stops_at 2 (cents bs) few (omega (arith, length_cents)))
+      clash (is_ascii_digit (get_or bs (n + 1 + m) 0))
+      (ap is_ascii_digit (sym (same (n + 1 + m) (omega arith))) ∙ g.digits (n + 1 + m) (omega (arith, g.long)) (λ k. omega arith))
+      (ap is_ascii_digit (sym (get_or-drop (n + 1) bs m 0)) ∙ stops_at 2 (cents bs) few (omega (arith, length_cents)))
 
   wrong_behind : (digits 2 (cents bs) ≡ 2 → length (cents bs) ≡ 2 → ⊥)
       → FirstWrong GoodPrice bs (digits 6 bs + 1 + digits 2 (cents bs) + 1)

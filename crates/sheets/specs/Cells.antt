@@ -1,18 +1,15 @@
 -- Cells, read from their bytes: a value, none where the cell is blank, or the place, from 1, of the
 -- first byte that cannot stand there (sheets 4).
-use Rattle.std.specs.Prelude.{ℕ, ◌+◌, ◌*◌, Bool, ◌&&◌, List, [], ◌∷◌, length, take, drop, Some, None, Ok, Err, Option, Result, ◌==◌, nat_le, nat_lt, slice_index, if◌then◌else◌}
+use Rattle.std.specs.Prelude.{ℕ, ◌+◌, ◌*◌, Bool, ◌&&◌, List, [], ◌∷◌, length, take, drop, Some, None, Ok, Err, Option, Result, ◌==◌, nat_lt, slice_index, if◌then◌else◌}
+use Rattle.std.specs.Char.{is_ascii_digit}
 use Rattle.std.specs.Str.Parse.{digits_value}
 use Rattle.std.specs.List.{prefix_len}
 use Rattle.orders.specs.declared.price.Price.{Price}
 use Rattle.sheets.specs.declared.cells.TheConstants.{NUMBER_DIGITS, WHOLE_DIGITS, CENT_DIGITS, COMMA}
 
--- '0' to '9' (sheets 4)
-abbrev pub is_digit : ℕ → Bool
-is_digit byte = nat_le 48 byte && nat_le byte 57
-
--- how many digits stand at the front, of the first `most` bytes
+-- how many digits, '0' to '9', stand at the front, of the first `most` bytes (sheets 4)
 abbrev pub digits : (most : ℕ) → List ℕ → ℕ
-digits most bytes = prefix_len is_digit (take most bytes)
+digits most bytes = prefix_len is_ascii_digit (take most bytes)
 
 -- the number that they write
 abbrev pub digits_number : (most : ℕ) → List ℕ → ℕ

@@ -1,13 +1,14 @@
 -- What a good cell is, in the words of the format, and that cells are read by it.
+use Rattle.std.specs.Char.{is_ascii_digit}
 use Rattle.std.specs.Prelude.{◌≡◌, ℕ, ◌+◌, ◌<◌, ◌≤◌, true, List, [], ◌++◌, length, take, Some, None, Ok, Err, Option, Result, ◌≢◌, slice_index, slice_index_or}
-use Rattle.sheets.specs.Cells.{is_digit, read_number, read_price, read_type}
+use Rattle.sheets.specs.Cells.{read_number, read_price, read_type}
 use Rattle.sheets.specs.declared.cells.TheConstants.{NUMBER_DIGITS, WHOLE_DIGITS, CENT_DIGITS, COMMA}
 
 -- 1 to 12 digits (sheets 4)
 pub record GoodNumber (bytes : List ℕ) : Type 0 where
   pub some : 1 ≤ length bytes
   pub few : length bytes ≤ NUMBER_DIGITS
-  pub digits : (i : ℕ) → i < length bytes → is_digit (slice_index bytes i) ≡ true
+  pub digits : (i : ℕ) → i < length bytes → is_ascii_digit (slice_index bytes i) ≡ true
 
 -- 1 to 6 digits, a comma and two digits (sheets 4)
 pub record GoodPrice (bytes : List ℕ) : Type 0 where
@@ -16,7 +17,7 @@ pub record GoodPrice (bytes : List ℕ) : Type 0 where
   pub few : whole ≤ WHOLE_DIGITS
   pub long : length bytes ≡ whole + 1 + CENT_DIGITS
   pub comma : slice_index_or bytes whole 0 ≡ COMMA
-  pub digits : (i : ℕ) → i < length bytes → i ≢ whole → is_digit (slice_index bytes i) ≡ true
+  pub digits : (i : ℕ) → i < length bytes → i ≢ whole → is_ascii_digit (slice_index bytes i) ≡ true
 
 -- one byte (sheets 4)
 abbrev pub GoodType : List ℕ → Type 0

@@ -43,6 +43,6 @@ abbrev pub reply_added : (limit : ℕ) → List Reply → Reply → List Reply
 reply_added limit replies reply =
     if nat_lt (length replies) limit then replies ++ reply ∷ [] else replies
 
--- the replies of a list with one more, or the same where it is full (sheets 6)
+-- the replies of a list with one more posted to it (sheets 6)
 abbrev pub with_reply : Replies → Reply → List Reply
 with_reply replies reply = reply_added replies.limit (posted replies) reply

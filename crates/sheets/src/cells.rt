@@ -1,9 +1,10 @@
 // Cells, read from their bytes. The error of an unreadable cell is its place, from 1, as the reply
 // has it: that of the first byte that cannot stand there.
+ghost use Rattle.std.specs.Char.{is_ascii_digit};
 ghost use Rattle.std.specs.Prelude.{◌≡◌, ◌≤◌, length, take};
 ghost use Rattle.std.specs.Str.Parse.{AllDigits, digits_value};
 ghost use Rattle.std.specs.List.{prefix_len};
-ghost use Rattle.sheets.specs.Cells.{is_digit, digits, read_number, read_price, read_type};
+ghost use Rattle.sheets.specs.Cells.{digits, read_number, read_price, read_type};
 
 use super::bytes::{byte_at, bytes_from, part_of};
 use orders::price::Price;
@@ -28,7 +29,7 @@ pub const CELL_PRICES_END: u32 = 100_000_000;
 
 // How many digits stand at the front.
 fn digit_count(bytes: &[u8]) -> usize
-    ensures { result ≡ prefix_len is_digit bytes.now }
+    ensures { result ≡ prefix_len is_ascii_digit bytes.now }
 {
     bytes.iter().take_while(|b| b.is_ascii_digit()).count()
 }

@@ -44,7 +44,7 @@ with_read number line forms (Ok None) = Ok forms
 with_read number line forms (Ok (Some form)) = joined number line forms form
 with_read number line forms (Err word) = Err (refused number word Word)
 
--- one line more, as it is read (lines 2)
+-- one line more, read (lines 2)
 abbrev pub with_line : (number : ℕ) → (line : List ℕ) → List Form → Result (List Form) Refused
 with_line number line forms = with_read number line forms (read_line line)
 
