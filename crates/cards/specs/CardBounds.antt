@@ -9,7 +9,8 @@ use Rattle.books.specs.declared.queue.Queue.{Queue}
 use Rattle.books.specs.declared.queue.Queue.TheVariants.{Orders, Stops}
 use Rattle.cards.specs.Held.{Held, over, covered}
 
-over_length : {X : Type 0} (f : X → Rank) (held : Option X) (xs : List X) → length (over f held xs) ≡ length xs
+over_length : {X : Type 0} (f : X → Rank) (held : Option X) (xs : List X) →
+    length (over f held xs) ≡ length xs
 over_length f None xs = refl
 over_length f (Some h) [] = refl
 over_length f (Some h) (x ∷ xs) = one (same_rank (f x) (f h))

@@ -1,19 +1,18 @@
--- Held records, one for each queue at most, and queues with them in place of their first ones
--- (rules 5).
-use Rattle.std.specs.Prelude.{ℕ, Bool, false, List, Some, None, Option, if◌then◌else◌}
+-- Held records, one for each queue at most, and queues with them in place of their first ones (rules 5).
+use Rattle.std.specs.Prelude.{ℕ, Bool, false, ◌&&◌, ◌==◌, List, Some, None, Option, if◌then◌else◌}
 use Rattle.std.specs.Option.{option_map}
 use Rattle.orders.specs.declared.order.Order.{Order}
 use Rattle.orders.specs.declared.order.Stop.{Stop}
 use Rattle.orders.specs.declared.rank.Rank.{Rank}
 use Rattle.orders.specs.Ranks.{same_rank}
 use Rattle.books.specs.RankedLists.{swapped}
-use Rattle.books.specs.Model.{Both, at, with_at, Queues, rank_of, stop_rank_of, order_of_record, has_client}
+use Rattle.books.specs.Model.{Both, at, with_at, Queues, rank_of, stop_rank_of, order_of_record}
 use Rattle.books.specs.declared.queue.Queue.{Queue}
 use Rattle.books.specs.declared.queue.Queue.TheVariants.{Orders, Stops}
 use Rattle.books.specs.declared.queue.Record.{Record}
 use Rattle.books.specs.declared.queue.Record.TheVariants.{Standing, Waiting}
 
--- the record that is held for each queue, if any: the latest rewrite of its first record (rules 5)
+-- the record that is held for each queue: the latest rewrite of its first record
 pub record Held : Type 0 where
   pub orders : Both (Option Order)
   pub stops : Both (Option Stop)
@@ -25,8 +24,10 @@ held_at (Stops side) held = option_map Waiting (at side held.stops)
 
 -- a record is held for its queue
 abbrev pub held_with : Record → Held → Held
-held_with (Standing order) held = record held { orders = with_at order.side (Some order) held.orders }
-held_with (Waiting stop) held = record held { stops = with_at stop.order.side (Some stop) held.stops }
+held_with (Standing order) held =
+    record held { orders = with_at order.side (Some order) held.orders }
+held_with (Waiting stop) held =
+    record held { stops = with_at stop.order.side (Some stop) held.stops }
 
 -- nothing is held for a queue
 abbrev pub held_without : Queue → Held → Held
@@ -59,8 +60,9 @@ one_is test (Some x) = test x
 
 -- whether a record has a firm's client number
 abbrev pub record_has_client : (firm client : ℕ) → Record → Bool
-record_has_client =
-    has_client (λ (r : Record). (order_of_record r).firm) (λ (r : Record). (order_of_record r).client)
+record_has_client firm client given =
+    let order = order_of_record given in
+    order.firm == firm && order.client == client
 
 -- queues with held records in place of their first ones (rules 5)
 abbrev pub covered : Held → Queues → Queues

@@ -62,7 +62,8 @@ impl<B: Book> FrontCard<B> {
 impl<B: Book> Book for FrontCard<B> {
     ghost queues = { card_queues B.Book.queues };
 
-    ghost bounded = { λ b. covered_bounded (held_by b) (B.Book.queues b.below) (B.Book.bounded b.below) };
+    ghost bounded = { λ card.
+        covered_bounded (held_by card) (B.Book.queues card.below) (B.Book.bounded card.below) };
 
     fn size(&self, queue: Queue) -> (usize, usize) {
         self.below.size(queue)
