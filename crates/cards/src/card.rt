@@ -8,9 +8,8 @@ mod held;
 
 use orders::row::{OrderRow, StopRow};
 
-/// A front card: it stands above another book and holds back, for each queue, the latest rewrite of
-/// its first record, until a put into that queue. It means the queues of the book below with the
-/// held records in place of first ones of their number and rank (rules 5).
+/// A front card: a book over another book. It holds back, for each queue, the latest rewrite of its first record, until a put into that queue. It
+/// means the queues of the book below with the held records in place of first ones of their number and rank (rules 5).
 #[derive(Drop)]
 pub struct FrontCard<B> {
     below: B,
