@@ -36,8 +36,8 @@ plain_order number side = record {
 }
 
 -- nothing stands and nothing waits
-abbrev pub empty_queues : Queues
-empty_queues = record {
+abbrev pub no_records : Queues
+no_records = record {
   stands = record { buy = []; sell = [] };
   waits = record { buy = []; sell = [] };
   standing_capacity = record { buy = 32; sell = 32 };
@@ -47,14 +47,14 @@ empty_queues = record {
 -- 100 lots entered, 99 cancelled, none left
 abbrev pub LostLot : Type 0
 LostLot =
-    Balanced (Cancelled 1 (Some at_20) 99 Requested ∷ Accepted 1 (Some at_20) 100 ∷ []) empty_queues
+    Balanced (Cancelled 1 (Some at_20) 99 Requested ∷ Accepted 1 (Some at_20) 100 ∷ []) no_records
     → ⊥
 
 -- 100 lots entered, all traded, and still open
 abbrev pub DoubledLots : Type 0
 DoubledLots =
     Balanced (Traded 2 1 at_20 100 ∷ Accepted 1 (Some at_20) 100 ∷ [])
-    (record empty_queues {
+    (record no_records {
       stands = record { buy = []; sell = order_of (plain_order 1 Sell) ∷ [] };
     })
     → ⊥
@@ -94,7 +94,7 @@ Crossed =
 abbrev pub Ripe : Type 0
 Ripe =
     Unripe (Some at_20)
-    (record empty_queues {
+    (record no_records {
       waits = record {
         buy = record { order = order_of (plain_order 1 Buy); trigger = at_20 } ∷ [];
         sell = [];

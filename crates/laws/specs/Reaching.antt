@@ -52,16 +52,16 @@ ReachMeans =
 -- so an entry that wants all trades whole or not at all, and one with a minimum trades at least
 -- that or not at all (rules 8)
 abbrev pub Filled : NewOrder → (lots : ℕ) → Type 0
-Filled asked lots =
-    (all_or_none asked.validity ≡ true → (lots ≡ 0) ⊎ (lots ≡ asked.quantity))
-    × ((lots ≡ 0) ⊎ (asked.minimum ≤ lots))
+Filled new_order lots =
+    (all_or_none new_order.validity ≡ true → (lots ≡ 0) ⊎ (lots ≡ new_order.quantity))
+    × ((lots ≡ 0) ⊎ (new_order.minimum ≤ lots))
 
 -- an accepted entry draws the next stamp for its number; its lots on the trade lines of its step
 abbrev pub AlwaysFilled : Type 0
 AlwaysFilled =
     (day stamp : ℕ) (q : Queues) (limit : ℕ) (forms : List Form) (form : EntryForm)
-    (asked : NewOrder) →
+    (new_order : NewOrder) →
     (let state : State = after forms (set_up day stamp q limit) in
-    validate_entry form ≡ Ok asked → answer (Entry form) state ≡ Ok tt →
-    Filled asked
+    validate_entry form ≡ Ok new_order → answer (Entry form) state ≡ Ok tt →
+    Filled new_order
     (total (traded_lots (session_of state.day).next_stamp) (step (Entry form) state).tape.lines))

@@ -46,11 +46,11 @@ AlwaysLawful = (day stamp : ℕ) (q : Queues) (limit : ℕ) (forms : List Form) 
 -- what a form asks, as far as the tally needs it
 
 abbrev pub entry_requested : Result NewOrder Refusal → Request
-entry_requested (Ok asked) = entry asked
+entry_requested (Ok new_order) = entry new_order
 entry_requested (Err refusal) = removal
 
 abbrev pub change_requested : Result AmendRequest Refusal → Request
-change_requested (Ok asked) = change asked.change
+change_requested (Ok amend) = change amend.change
 change_requested (Err refusal) = removal
 
 abbrev pub request : Form → Request
@@ -64,8 +64,8 @@ step_lines before later = take (length later.tape.lines - length before.tape.lin
 
 -- the tally notes accepted steps alone; at a step's end the incoming order has come to stand
 abbrev pub tally_fed : Result (Unit {0}) Refusal → Request → List Line → Tally → Tally
-tally_fed (Ok done) asked lines tally = incoming_rested (noted asked lines tally)
-tally_fed (Err refusal) asked lines tally = tally
+tally_fed (Ok done) request lines tally = incoming_rested (noted request lines tally)
+tally_fed (Err refusal) request lines tally = tally
 
 -- the tally after one more step
 abbrev pub tallied : Form → State → Tally → Tally

@@ -70,16 +70,16 @@ outcome_put refilled lots stamp resting queues =
 outcome_put _ lots stamp resting queues = Unit {0}
 
 -- a claim about a put, which cause 5 alone makes (numbers 7)
-abbrev pub IfNoPlace : Cause → Type 0 → Type 0
-IfNoPlace NotPut claim = claim
-IfNoPlace _ claim = Unit {0}
+abbrev pub IfNotPut : Cause → Type 0 → Type 0
+IfNotPut NotPut claim = claim
+IfNotPut _ claim = Unit {0}
 
 abbrev pub PutDone : Event → MatchState → Type 0
 PutDone (accepts_stop stop) state = put_answer (Waiting stop) state.queues ≡ Ok tt
-PutDone (accepts_and_cancels cause order) state = IfNoPlace cause
+PutDone (accepts_and_cancels cause order) state = IfNotPut cause
     ((stop : Stop) × (stop.order ≡ order) × (put_answer (Waiting stop) state.queues ≡ Err Full))
 PutDone (cancels_incoming cause order) state =
-    IfNoPlace cause (put_answer (Standing order) state.queues ≡ Err Full)
+    IfNotPut cause (put_answer (Standing order) state.queues ≡ Err Full)
 PutDone (trades incoming resting) state =
     outcome_put (outcome (trade_lots incoming resting) resting) (trade_lots incoming resting)
     state.session.next_stamp resting (taken (Orders (opposite incoming.side)) 0 state.queues)

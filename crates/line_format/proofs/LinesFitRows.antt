@@ -22,7 +22,7 @@ use Rattle.line_format.specs.declared.words.BadWord.{BadWord}
 use Rattle.line_format.specs.Words.{next_word}
 use Rattle.line_format.specs.Values.{read_as, read_value, worded, number_value, price_value, type_value, side_word, validity_word}
 use Rattle.line_format.specs.LineCells.{Values, blank_cells, fill_cell, fill_column, with_word}
-use Rattle.line_format.specs.Lines.{cell_number, cell_price, form_of, if_filled, read_words}
+use Rattle.line_format.specs.Lines.{cell_number, cell_price, form_of, or_refused, read_words}
 
 -- a value that has room in its cell
 abbrev value_fits : Option Value → Bool
@@ -132,16 +132,16 @@ column_fit (Some c) value cells filled all e =
 abbrev FitsAfter : (Values → Result Values BadWord) → Values → Type 0
 FitsAfter rest end = (filled : Values) → AllFit filled → rest filled ≡ Ok end → AllFit end
 
-if_filled_fit : (o : Option Values) (w : Word) (rest : Values → Result Values BadWord) (end : Values)
-    → ((filled : Values) → o ≡ Some filled → AllFit filled) → FitsAfter rest end → if_filled o w rest ≡ Ok end → AllFit end
-if_filled_fit None w rest end h good e = cc
-if_filled_fit (Some filled) w rest end h good e = good filled (h filled refl) e
+or_refused_fit : (o : Option Values) (w : Word) (rest : Values → Result Values BadWord) (end : Values)
+    → ((filled : Values) → o ≡ Some filled → AllFit filled) → FitsAfter rest end → or_refused o w rest ≡ Ok end → AllFit end
+or_refused_fit None w rest end h good e = cc
+or_refused_fit (Some filled) w rest end h good e = good filled (h filled refl) e
 
 word_fit : (t : Bool) (letter : Letter) (word : List ℕ) (w : Word) (cells end : Values) (rest : Values → Result Values BadWord)
-    → AllFit cells → FitsAfter rest end → cond t (Ok cells) (if_filled (with_word letter cells word) w rest) ≡ Ok end → AllFit end
+    → AllFit cells → FitsAfter rest end → cond t (Ok cells) (or_refused (with_word letter cells word) w rest) ≡ Ok end → AllFit end
 word_fit true letter word w cells end rest all good e = let same : cells ≡ end = cc in subst AllFit same all
 word_fit false letter word w cells end rest all good e =
-    if_filled_fit (with_word letter cells word) w rest end (λ filled f. column_fit _ _ cells filled all f) good e
+    or_refused_fit (with_word letter cells word) w rest end (λ filled f. column_fit _ _ cells filled all f) good e
 
 pub words_fit : (n : ℕ) (letter : Letter) (line : List ℕ) (at : ℕ) (cells end : Values) → AllFit cells → read_words n letter line at cells ≡ Ok end → AllFit end
 unfolding read_words

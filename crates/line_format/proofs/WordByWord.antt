@@ -9,7 +9,7 @@ use Rattle.line_format.specs.declared.words.Word.{Word}
 use Rattle.line_format.specs.declared.words.BadWord.{BadWord}
 use Rattle.line_format.specs.Words.{next_word, bad_word, WordInLine}
 use Rattle.line_format.specs.LineCells.{Values, with_word}
-use Rattle.line_format.specs.Lines.{if_filled, read_word, read_words}
+use Rattle.line_format.specs.Lines.{or_refused, read_word, read_words}
 
 -- no word is left
 pub no_more : (n : ℕ) (letter : Letter) (line : List ℕ) (at : ℕ) (cells : Values) → (next_word line at).size ≡ 0 → read_words n letter line at cells ≡ Ok cells
@@ -23,7 +23,7 @@ goes_on (Ok cells) rest = rest cells.values
 goes_on (Err bad) rest = Err bad
 
 filled : (o : Option Cells) (w : Word) (rest : Values → Result Values BadWord)
-    → if_filled (option_map (λ (c : Cells). c.values) o) w rest ≡ goes_on (ok_or o (bad_word w)) rest
+    → or_refused (option_map (λ (c : Cells). c.values) o) w rest ≡ goes_on (ok_or o (bad_word w)) rest
 filled None w rest = refl
 filled (Some cells) w rest = refl
 

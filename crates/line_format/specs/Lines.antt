@@ -93,10 +93,10 @@ form_of Closing cells = form.TheVariants.Closing
 form_of Opening cells = form.TheVariants.Opening (opening_form cells)
 
 -- a line is refused for a word that fills no cell (lines 1)
-abbrev pub if_filled : Option Values → Word → (rest : Values → Result Values BadWord)
+abbrev pub or_refused : Option Values → Word → (rest : Values → Result Values BadWord)
     → Result Values BadWord
-if_filled None word rest = Err (bad_word word)
-if_filled (Some cells) word rest = rest cells
+or_refused None word rest = Err (bad_word word)
+or_refused (Some cells) word rest = rest cells
 
 -- a word fills its cell, and then the words after it theirs; no word is left where it has no bytes
 -- (lines 1)
@@ -104,7 +104,7 @@ abbrev pub read_word : Letter → (line : List ℕ) → Word → Values
     → (rest : Values → Result Values BadWord) → Result Values BadWord
 read_word letter line word cells rest =
     if word.size == 0 then Ok cells
-    else if_filled (with_word letter cells (part line word.start word.size)) word rest
+    else or_refused (with_word letter cells (part line word.start word.size)) word rest
 
 -- the cells after at most n words from an offset on (lines 1)
 unfoldable pub read_words : (n : ℕ) → Letter → (line : List ℕ) → (at : ℕ) → Values

@@ -4,9 +4,11 @@ use Rattle.orders.specs.declared.side.Side.{Side}
 use Rattle.orders.specs.declared.side.Side.TheVariants.{Buy, Sell}
 use Rattle.orders.specs.declared.price.Price.{Price}
 use Rattle.orders.specs.declared.order.Order.{Order}
+use Rattle.orders.specs.declared.order.TheConstants.{MOST_LOTS}
 use Rattle.orders.specs.Prices.{level, same_price}
 use Rattle.orders.specs.Sides.{opposite}
 use Rattle.orders.specs.Lots.{within_limit, same_investor}
+use Rattle.books.specs.declared.book.TheConstants.{MOST_RECORDS}
 use Rattle.books.specs.Model.{Queues, at}
 
 -- the first price ranks before the second among orders of this side (rules 4)
@@ -57,6 +59,6 @@ reach incoming orders = reach_by (own_price incoming orders) incoming orders
 abbrev pub opposite_orders : Order → Queues → List Order
 opposite_orders incoming queues = at (opposite incoming.side) queues.stands
 
--- no reach is larger: a million orders of a million lots (rules 3, 5)
+-- no reach is larger: as many orders as a queue can hold, of as many lots as an order can have (rules 3, 5)
 abbrev pub most_open_lots : ℕ
-most_open_lots = 1000000 * 1000000
+most_open_lots = MOST_RECORDS * MOST_LOTS

@@ -1,6 +1,7 @@
 // Reach: how many lots an incoming order could trade at once.
 ghost use Rattle.std.specs.Prelude.{◌≡◌, ◌≤◌, length, if◌then◌else◌};
 ghost use Rattle.orders.specs.Prices.{same_price};
+ghost use Rattle.books.specs.declared.book.TheConstants.{MOST_RECORDS};
 ghost use Rattle.books.specs.OrdersLeft.{orders_left};
 ghost use Rattle.matching.specs.Reach.{better, own, own_price, counts, counted_open_lots, shown_ahead, opposite_orders, most_open_lots, reach};
 
@@ -54,7 +55,7 @@ fn shown_at(r: Order, price: Price) -> u32
 // The orders that stand opposite, in rank order.
 fn opposite_orders<B: Book>(book: &B, order: Order) -> OrdersOf<'_, B>
     ensures answer { orders_left B.queues result ≡ opposite_orders order (B.queues book.now) }
-    ensures few { length (opposite_orders order (B.queues book.now)) ≤ 1000000 }
+    ensures few { length (opposite_orders order (B.queues book.now)) ≤ MOST_RECORDS }
 {
     orders_in(book, Queue::Orders(order.side.opposite()))
 }

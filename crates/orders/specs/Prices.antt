@@ -3,10 +3,6 @@ use Rattle.std.specs.Prelude.{ℕ, Bool, ◌&&◌, ◌==◌, nat_le}
 use Rattle.orders.specs.declared.price.Price.{Price}
 use Rattle.orders.specs.declared.price.TheConstants.{LOWEST, HIGHEST}
 
--- the price of so many hundredths
-abbrev pub price_of_hundredths : ℕ → Price
-price_of_hundredths hundredths = record { hundredths = hundredths }
-
 -- how high a price is, in hundredths
 abbrev pub level : Price → ℕ
 level price = price.hundredths

@@ -1,6 +1,6 @@
 // Prices, in hundredths of the currency (rules 2).
 ghost use Rattle.std.specs.Prelude.{◌≡◌};
-ghost use Rattle.orders.specs.Prices.{price_of_hundredths, level, in_price_range};
+ghost use Rattle.orders.specs.Prices.{level, in_price_range};
 
 /// A price in hundredths of the currency. An absent price is an `Option`, never a number.
 #[derive(Clone, Copy, Debug, PartialEq, Eq, PartialOrd, Ord)]
@@ -15,20 +15,6 @@ pub const LOWEST: u32 = 1;
 pub const HIGHEST: u32 = 99_999_999;
 
 impl Price {
-    /// The price of so many hundredths, also of a count that no order may carry.
-    pub fn of_hundredths(hundredths: u32) -> Price
-        ensures { result ≡ price_of_hundredths hundredths }
-    {
-        Price { hundredths }
-    }
-
-    /// How many hundredths the price is.
-    pub fn hundredths(self) -> u32
-        ensures { result ≡ level self }
-    {
-        self.hundredths
-    }
-
     /// How high the price is: prices compare by it alone.
     pub fn level(self) -> u32
         ensures { result ≡ level self }

@@ -6,13 +6,14 @@ use Rattle.orders.specs.declared.side.Side.{Side}
 use Rattle.orders.specs.declared.side.Validity.{Validity}
 use Rattle.orders.specs.Sides.{side_of, validity_of}
 use Rattle.orders.specs.declared.price.Price.{Price}
+use Rattle.orders.specs.declared.order.TheConstants.{MOST_LOTS}
 use Rattle.orders.specs.Prices.{in_price_range}
 use Rattle.forms.specs.Results.{and_then}
 use Rattle.forms.specs.declared.refusal.Refusal.{Refusal}
 use Rattle.forms.specs.declared.refusal.Refusal.TheVariants.{WrongBlank, OutOfRange}
 use Rattle.validation.specs.declared.cells.TypeCode.{TypeCode}
 use Rattle.validation.specs.declared.cells.TypeCode.TheVariants.{Limit, StopLimit, Market}
-use Rattle.validation.specs.declared.cells.TheConstants.{HIGHEST_FIRM, HIGHEST_DAY, HIGHEST_IDENTIFIER, MOST_LOTS, HIGHEST_INVESTOR, HIGHEST_TAG}
+use Rattle.validation.specs.declared.cells.TheConstants.{HIGHEST_FIRM, HIGHEST_DAY, HIGHEST_IDENTIFIER, HIGHEST_INVESTOR, HIGHEST_TAG}
 
 -- a cell that is blank or filled against the rules is refused before anything else (numbers 5)
 abbrev pub blanks_first : {A : Type 0} → Option ℕ → Result A Refusal → Result A Refusal

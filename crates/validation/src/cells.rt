@@ -9,6 +9,7 @@ ghost use Rattle.validation.specs.Cells.{in_range, number_in, side_in, validity_
 ghost use Rattle.validation.specs.CellRanges.{CellRanges};
 
 use forms::refusal::Refusal;
+use orders::order::MOST_LOTS;
 use orders::price::Price;
 use orders::side::{Side, UnknownCode, Validity};
 use std::num::TryFromIntError;
@@ -38,11 +39,9 @@ const HIGHEST_IDENTIFIER: u64 = 999_999_999;
 // Client numbers and order numbers.
 pub(crate) const IDENTIFIERS: Bounds = Bounds(1, HIGHEST_IDENTIFIER);
 
-const MOST_LOTS: u64 = 1_000_000;
+pub(crate) const LOTS: Bounds = Bounds(1, MOST_LOTS as u64);
 
-pub(crate) const LOTS: Bounds = Bounds(1, MOST_LOTS);
-
-pub(crate) const LOTS_OR_NONE: Bounds = Bounds(0, MOST_LOTS);
+pub(crate) const LOTS_OR_NONE: Bounds = Bounds(0, MOST_LOTS as u64);
 
 const HIGHEST_INVESTOR: u64 = 999_999_999_999;
 

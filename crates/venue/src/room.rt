@@ -1,5 +1,6 @@
 // Room: whether the tape and the stamps suffice for a step.
 ghost use Rattle.std.specs.Prelude.{◌≡◌, ◌*◌, ◌≤◌};
+ghost use Rattle.books.specs.declared.book.TheConstants.{MOST_RECORDS};
 ghost use Rattle.books.specs.Model.{count};
 ghost use Rattle.venue.specs.Rooms.{needed, lines_free, stamps_free};
 ghost use Rattle.venue.specs.RoomLimits.{RoomLimits};
@@ -18,7 +19,7 @@ pub const ROOM_PER_RECORD: usize = 20;
 // How many records a queue holds: few enough for the sum of four.
 fn count<B: Book>(book: &B, queue: Queue) -> usize
     ensures answer { result ≡ count queue (B.queues book.now) }
-    ensures small { result ≤ 1000000 }
+    ensures small { result ≤ MOST_RECORDS }
 {
     book.size(queue).0
 }
