@@ -6,4 +6,4 @@ use Rattle.books.specs.Model.{Queues, orders_in}
 
 -- the orders that the iterator has not given yet
 abbrev pub orders_left : {B : Type 0} → (B → Queues) → OrdersOf B → List Order
-orders_left queues walk = drop walk.index (orders_in walk.queue (queues walk.book.now))
+orders_left queues iterator = drop iterator.index (orders_in iterator.queue (queues iterator.book.now))

@@ -171,9 +171,9 @@ pub fn swap_item<T: StoredRow + Copy, L: QueueStore<Row = T>>(
         (L.QueueStore.contents store.old).capacity }
 {
     let row = T::from_item(item);
-    let fits = ranks_as(store.look(index), row);
-    if fits {
+    let allowed = ranks_as(store.look(index), row);
+    if allowed {
         store.replace(index, row);
     }
-    fits
+    allowed
 }

@@ -1,4 +1,5 @@
--- Held records, one for each queue at most, and queues with them in place of their first ones (rules 5).
+-- Held records, one for each queue at most, and queues with them in place of their first ones
+-- (rules 5).
 use Rattle.std.specs.Prelude.{ℕ, Bool, false, ◌&&◌, ◌==◌, List, Some, None, Option, if◌then◌else◌}
 use Rattle.std.specs.Option.{option_map}
 use Rattle.orders.specs.declared.order.Order.{Order}

@@ -6,11 +6,11 @@ use Rattle.orders.specs.declared.row.StopRow.{StopRow}
 use Rattle.orders.specs.Sides.{same_side}
 
 -- whether a held order's row, if there is one, is of a side
-abbrev pub order_side : Side → Option OrderRow → Bool
-order_side side None = true
-order_side side (Some row) = same_side side row.side
+abbrev pub order_on_side : Side → Option OrderRow → Bool
+order_on_side side None = true
+order_on_side side (Some row) = same_side side row.side
 
 -- whether a held stop's row, if there is one, is of a side
-abbrev pub stop_side : Side → Option StopRow → Bool
-stop_side side None = true
-stop_side side (Some row) = same_side side row.order.side
+abbrev pub stop_on_side : Side → Option StopRow → Bool
+stop_on_side side None = true
+stop_on_side side (Some row) = same_side side row.order.side

@@ -1,7 +1,7 @@
 // The front card: the book below, and for each queue at most one held row.
 ghost use Rattle.std.specs.Prelude.{◌≡◌, true};
 ghost use Rattle.orders.specs.declared.side.Side.TheVariants.{Buy, Sell};
-ghost use Rattle.cards.specs.HeldSides.{order_side, stop_side};
+ghost use Rattle.cards.specs.HeldSides.{order_on_side, stop_on_side};
 
 pub mod book;
 mod held;
@@ -17,8 +17,8 @@ pub struct FrontCard<B> {
     offer: Option<OrderRow>,
     buy: Option<StopRow>,
     sell: Option<StopRow>,
-    ghost bid_side: { order_side Buy bid ≡ true },
-    ghost offer_side: { order_side Sell offer ≡ true },
-    ghost buy_side: { stop_side Buy buy ≡ true },
-    ghost sell_side: { stop_side Sell sell ≡ true },
+    ghost bid_side: { order_on_side Buy bid ≡ true },
+    ghost offer_side: { order_on_side Sell offer ≡ true },
+    ghost buy_side: { stop_on_side Buy buy ≡ true },
+    ghost sell_side: { stop_on_side Sell sell ≡ true },
 }

@@ -25,7 +25,8 @@ abbrev pub StepFilled : Form → State → Type 0
 StepFilled (Entry form) state =
     (day stamp : ℕ) (q : Queues) (limit : ℕ) (forms : List Form) →
     state ≡ after forms (set_up day stamp q limit) →
-    (new_order : NewOrder) → validate_entry form ≡ Ok new_order → answer (Entry form) state ≡ Ok tt →
+    (new_order : NewOrder) →
+    validate_entry form ≡ Ok new_order → answer (Entry form) state ≡ Ok tt →
     Filled new_order
     (total (traded_lots (session_of state.day).next_stamp) (step (Entry form) state).tape.lines)
 StepFilled _ state = Unit {0}

@@ -9,8 +9,8 @@ abbrev pub Asks : (line : List ℕ) → Form → Type 0
 Asks line form = read_line line ≡ Ok (Some form)
 
 -- a line is refused for the word that begins at a place, from 1, and has so many bytes
-abbrev pub Spoilt : (line : List ℕ) → (place length : ℕ) → Type 0
-Spoilt line place length = read_line line ≡ Err (record { place = place; length = length })
+abbrev pub RefusedFor : (line : List ℕ) → (place length : ℕ) → Type 0
+RefusedFor line place length = read_line line ≡ Err (record { place = place; length = length })
 
 -- what is read of each line (lines 1)
 pub record WorkedLines : Type 0 where
@@ -55,16 +55,16 @@ pub record WorkedLines : Type 0 where
         investor = None;
         tag = None;
       }))
-  pub unknown_letter : Spoilt (codes " Y firm=12") 2 1
-  pub long_letter : Spoilt (codes "XX firm=12") 1 2
-  pub unknown_name : Spoilt (codes "X firm=12 side=1") 11 6
-  pub behind_tabs : Spoilt (codes "\tX\tfirm=a") 4 6
-  pub twice : Spoilt (codes "X firm=12  firm=12") 12 7
-  pub no_value : Spoilt (codes "X firm=") 3 5
-  pub no_name : Spoilt (codes "X =12") 3 3
-  pub no_sign : Spoilt (codes "X firm") 3 4
-  pub no_number : Spoilt (codes "X firm=1a number=b") 3 7
-  pub thirteen_digits : Spoilt (codes "X firm=1234567890123") 3 18
-  pub no_price : Spoilt (codes "E price=20.00") 3 11
-  pub two_types : Spoilt (codes "E type=24") 3 7
-  pub no_side : Spoilt (codes "E side=gtc") 3 8
+  pub unknown_letter : RefusedFor (codes " Y firm=12") 2 1
+  pub long_letter : RefusedFor (codes "XX firm=12") 1 2
+  pub unknown_name : RefusedFor (codes "X firm=12 side=1") 11 6
+  pub behind_tabs : RefusedFor (codes "\tX\tfirm=a") 4 6
+  pub twice : RefusedFor (codes "X firm=12  firm=12") 12 7
+  pub no_value : RefusedFor (codes "X firm=") 3 5
+  pub no_name : RefusedFor (codes "X =12") 3 3
+  pub no_sign : RefusedFor (codes "X firm") 3 4
+  pub no_number : RefusedFor (codes "X firm=1a number=b") 3 7
+  pub thirteen_digits : RefusedFor (codes "X firm=1234567890123") 3 18
+  pub no_price : RefusedFor (codes "E price=20.00") 3 11
+  pub two_types : RefusedFor (codes "E type=24") 3 7
+  pub no_side : RefusedFor (codes "E side=gtc") 3 8

@@ -78,7 +78,7 @@ fn columns(letter: Letter) -> &'static [(&'static [u8], CellKind)]
 }
 
 // The index of a name among columns.
-fn place_of(columns: &[(&[u8], CellKind)], name: &[u8]) -> Option<usize>
+fn index_of(columns: &[(&[u8], CellKind)], name: &[u8]) -> Option<usize>
     ensures { result ≡ position (λ c. bytes_eq name.now c.0.now) columns.now }
 {
     columns.iter().position(|c| name == c.0)
@@ -90,7 +90,7 @@ pub(crate) fn column_of(letter: Letter, name: &[u8]) -> Option<Column>
     ensures within { IfSome result (λ column. column.index < MOST_CELLS) }
 {
     let columns = columns(letter);
-    let index = place_of(columns, name)?;
+    let index = index_of(columns, name)?;
     let kind = columns[index].1;
     Some(Column { index, kind })
 }

@@ -23,7 +23,7 @@ fn read_words(letter: Letter, line: &[u8], from: usize) -> Result<Cells, BadWord
     while let Some(word) = next_word(line, at) {
         cells = cells
             .with_word(letter, word.bytes(line))
-            .ok_or(word.spoils())?;
+            .ok_or(word.as_bad_word())?;
         at = word.start + word.size;
     }
     Ok(cells)
@@ -39,7 +39,7 @@ pub fn read_line(line: &[u8]) -> Result<Option<Form>, BadWord>
     let Some(first) = next_word(line, 0) else {
         return Ok(None);
     };
-    let letter = letter_word(first.bytes(line)).ok_or(first.spoils())?;
+    let letter = letter_word(first.bytes(line)).ok_or(first.as_bad_word())?;
     let cells = read_words(letter, line, first.start + first.size)?;
     Ok(Some(cells.form(letter)))
 }

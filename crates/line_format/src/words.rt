@@ -99,7 +99,7 @@ pub fn first_word(line: &[u8]) -> BadWord
     ensures answer { result ≡ bad_word (next_word line.now 0) }
     ensures within { result.place + result.length ≤ length line.now + 1 }
 {
-    word_behind(line, 0).spoils()
+    word_behind(line, 0).as_bad_word()
 }
 
 impl Word {
@@ -111,7 +111,7 @@ impl Word {
     }
 
     // The word as the one that its line is refused for.
-    pub(crate) fn spoils(self) -> BadWord
+    pub(crate) fn as_bad_word(self) -> BadWord
         requires { self.start < usize.MAX }
         ensures { result ≡ bad_word self }
     {

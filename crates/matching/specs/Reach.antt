@@ -59,6 +59,7 @@ reach incoming orders = reach_by (own_price incoming orders) incoming orders
 abbrev pub opposite_orders : Order → Queues → List Order
 opposite_orders incoming queues = at (opposite incoming.side) queues.stands
 
--- no reach is larger: as many orders as a queue can hold, of as many lots as an order can have (rules 3, 5)
+-- no reach is larger: as many orders as a queue can hold, of as many lots as an order can have
+-- (rules 3, 5)
 abbrev pub most_open_lots : ℕ
 most_open_lots = MOST_RECORDS * MOST_LOTS

@@ -38,7 +38,8 @@ removes (Matching filter) order = matches_filter filter order
 removes DayOrders order = is_day order.validity
 
 -- a record that the removal names is cancelled, any other is passed; behind the last the sweep ends
-abbrev pub sweep_at : Option Record → Removal → (Record → MatchState) → MatchState → MatchState → MatchState
+abbrev pub sweep_at : Option Record → Removal →
+    (Record → MatchState) → MatchState → MatchState → MatchState
 sweep_at None removal cancel pass end = end
 sweep_at (Some found) removal cancel pass end =
     if removes removal (order_of_record found) then cancel found else pass

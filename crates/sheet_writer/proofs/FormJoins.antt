@@ -5,7 +5,7 @@ use Rattle.std.specs.Prelude.{nat_le, nat_lt}
 use Rattle.forms.specs.declared.form.Form.{Form}
 use Rattle.sheets.specs.FormBounds.{form_in_bounds}
 use Rattle.sheet_writer.specs.declared.draft.Excess as excess
-use Rattle.sheet_writer.specs.WrittenRows.{row_written, row_if_fits, sheet_of}
+use Rattle.sheet_writer.specs.WrittenRows.{row_written, row_if_room, sheet_of}
 use Rattle.sheet_writer.specs.Drafts.{Joined}
 
 -- a form has a row exactly where its cells have room for its values
@@ -19,12 +19,12 @@ from_row false bs row e = cc
 
 -- no room for a value, no row more, no byte more, or a row that joins: looked for in this order
 module _ (rs : List (List ℕ)) (f : Form) where
-  pub no_value : None ≡ row_if_fits f → Joined rs f rs (Err excess.TheVariants.Value)
+  pub no_value : None ≡ row_if_room f → Joined rs f rs (Err excess.TheVariants.Value)
   no_value e =
       let unfit = from_no_row (form_in_bounds f) (row_written f) e in
       record { answer = rw unfit refl; state = rw unfit refl }
 
-  module _ (bs : List ℕ) (e : Some bs ≡ row_if_fits f) where
+  module _ (bs : List ℕ) (e : Some bs ≡ row_if_room f) where
     fit : form_in_bounds f ≡ true
     fit = (from_row (form_in_bounds f) bs (row_written f) e).0
 

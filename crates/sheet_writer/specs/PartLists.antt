@@ -8,15 +8,15 @@ use Rattle.sheet_writer.specs.PackedParts.{laid_out}
 
 -- these parts are stored: for which directory, how long each is, and their bytes
 abbrev pub Packs : Directory → (parts : List (List ℕ)) → Parts → Type 0
-Packs directory parts kept =
-    (kept.directory ≡ directory)
-    × (vec_items kept.lengths ≡ map length parts)
-    × (vec_items kept.bytes ≡ concat parts)
+Packs directory parts stored =
+    (stored.directory ≡ directory)
+    × (vec_items stored.lengths ≡ map length parts)
+    × (vec_items stored.bytes ≡ concat parts)
 
 -- how many bytes the directory and its parts have with one part more
 abbrev pub size_with : Parts → (part : List ℕ) → ℕ
-size_with kept part =
-    directory_end kept.directory (vec_len kept.lengths + 1) + vec_len kept.bytes + length part
+size_with stored part =
+    directory_end stored.directory (vec_len stored.lengths + 1) + vec_len stored.bytes + length part
 
 -- a part joins the others at the end
 pub record PartAdded (old new : Parts) (part : List ℕ) : Type 0 where
@@ -30,5 +30,5 @@ pub record SameParts (old new : Parts) : Type 0 where
 
 -- a head, the directory of the parts, and the parts
 abbrev pub bytes_behind : (head : List ℕ) → Parts → List ℕ
-bytes_behind head kept =
-    laid_out kept.directory head (vec_items kept.lengths) (vec_items kept.bytes)
+bytes_behind head stored =
+    laid_out stored.directory head (vec_items stored.lengths) (vec_items stored.bytes)

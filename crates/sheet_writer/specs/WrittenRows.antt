@@ -15,8 +15,8 @@ row_written form =
     packed Cells (letter_byte (letter form) ∷ length (cells form) ∷ []) (map text (cells form))
 
 -- the row of a form whose cells have room for their values (sheets 4)
-abbrev pub row_if_fits : Form → Option (List ℕ)
-row_if_fits form = if form_in_bounds form then Some (row_written form) else None
+abbrev pub row_if_room : Form → Option (List ℕ)
+row_if_room form = if form_in_bounds form then Some (row_written form) else None
 
 -- the sheet of some rows: how many they are, their pairs, and the rows (sheets 1)
 abbrev pub sheet_of : List (List ℕ) → List ℕ

@@ -8,7 +8,7 @@ ghost use Rattle.sheets.specs.declared.directory.Directory.TheVariants.{Cells};
 ghost use Rattle.sheet_writer.specs.CellTexts.{letter, letter_byte, cells, text, has_room};
 ghost use Rattle.sheet_writer.specs.PartLists.{Packs};
 ghost use Rattle.sheet_writer.specs.WorkedSheet.{WorkedSheet};
-ghost use Rattle.sheet_writer.specs.WrittenRows.{row_if_fits};
+ghost use Rattle.sheet_writer.specs.WrittenRows.{row_if_room};
 ghost use Rattle.sheet_writer.specs.RowLimits.{RowLimits};
 
 use crate::cell::Cell;
@@ -133,7 +133,7 @@ fn parts_of(heap: Global, cells: &[Cell]) -> Result<Parts, AllocError>
 /// The bytes of a form's row, which read as the form; none where a cell has no room for its value.
 #[tactic(auto, using(crate::proofs::RowReadsBack::fits_by_cells))]
 pub fn write_row(heap: Global, form: Form) -> Result<Option<Vec<u8>>, AllocError>
-    ensures answer { IfOk result (λ row. option_map vec_items row ≡ row_if_fits form) }
+    ensures answer { IfOk result (λ row. option_map vec_items row ≡ row_if_room form) }
     ensures back { IfOk result (λ row. IfSome row (λ v. read_form (vec_items v) ≡ Ok form)) }
 {
     let cells = cells(heap, form)?;

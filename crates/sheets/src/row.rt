@@ -20,8 +20,8 @@ use forms::refusal::Refusal;
 fn cell<T, F: FnOnce(&[u8]) -> Result<T, u8>>(row: &[u8], k: u8, read: F) -> Result<T, Refusal>
     requires small { k < u8.MAX }
     requires callable { F.IsAlwaysCallable read }
-    ensures { (said : _) × FnOnceReturnsAt F.FnOnce read (part_at Cells row.now k) said
-        × (result ≡ in_cell k said) }
+    ensures { (value : _) × FnOnceReturnsAt F.FnOnce read (part_at Cells row.now k) value
+        × (result ≡ in_cell k value) }
 {
     read(Directory::Cells.part(row, u16::from(k))).map_err(|place| Refusal::Unreadable {
         cell: k + 1,

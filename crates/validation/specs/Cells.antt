@@ -26,7 +26,8 @@ in_range at None = Err (OutOfRange at)
 in_range at (Some value) = Ok value
 
 -- a cell that may be blank is checked where it is filled
-abbrev pub if_filled : {A B : Type 0} → (A → Result B Refusal) → Option A → Result (Option B) Refusal
+abbrev pub if_filled : {A B : Type 0} →
+    (A → Result B Refusal) → Option A → Result (Option B) Refusal
 if_filled check None = Ok None
 if_filled check (Some value) = and_then (check value) (λ checked. Ok (Some checked))
 

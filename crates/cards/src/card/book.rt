@@ -51,11 +51,11 @@ impl<B: Book> FrontCard<B> {
             rewritten 0 «record» (card_queues B.Book.queues self.old) }
         ensures unchanged { self.new.below ≡ self.old.below }
     {
-        let fits = ranks_as(self.below.look(record.queue(), 0), record);
-        if fits {
+        let allowed = ranks_as(self.below.look(record.queue(), 0), record);
+        if allowed {
             self.hold(record);
         }
-        fits
+        allowed
     }
 }
 

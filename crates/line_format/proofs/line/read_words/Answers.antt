@@ -9,16 +9,16 @@ pub returns-in_err-cells-clause-err : goal.returns-in_err-cells-clause-err
 returns-in_err-cells-clause-err c =
     let i = c.loop-word.invariant in
     let h = rw c.bytes.ensures at c.with_word.ensures in
-    let e = one_more i.1 c.args.letter c.args.line.now c.loop-word.at c.loop-word.cells.values c.in-Some.word c.with_word.result c.spoils.result
-    c.in-Some.ensures.some c.in-Some.ensures.within i.2 h c.spoils.ensures in
+    let e = one_more i.1 c.args.letter c.args.line.now c.loop-word.at c.loop-word.cells.values c.in-Some.word c.with_word.result c.as_bad_word.result
+    c.in-Some.ensures.some c.in-Some.ensures.within i.2 h c.as_bad_word.ensures in
     search rules
 
 pub loop-word-preserved : goal.loop-word-preserved
 loop-word-preserved c =
     let i = c.loop-word.invariant in
     let h = rw c.bytes.ensures at c.with_word.ensures in
-    let e = one_more i.1 c.args.letter c.args.line.now c.loop-word.at c.loop-word.cells.values c.in-Some.word c.with_word.result c.spoils.result
-    c.in-Some.ensures.some c.in-Some.ensures.within i.2 h c.spoils.ensures in
+    let e = one_more i.1 c.args.letter c.args.line.now c.loop-word.at c.loop-word.cells.values c.in-Some.word c.with_word.result c.as_bad_word.result
+    c.in-Some.ensures.some c.in-Some.ensures.within i.2 h c.as_bad_word.ensures in
     (c.in-Some.ensures.within.inside, e.0, e.1, search rules)
 
 pub returns-clause-ok : goal.returns-clause-ok
