@@ -110,7 +110,7 @@ runs_to_consistent : {f g : MatchState} → RunsTo f g → Consistent f → Cons
 runs_to_consistent at_end s = s
 runs_to_consistent (at_next {f} e n r l) s = runs_to_consistent l (consistent_apply e f n.0 r s)
 
--- room for all that may still happen: a free line and an undrawn stamp for each of the weight
+-- room for all that may still come: a free line and an undrawn stamp for each of the weight
 pub record RoomForRest (f : MatchState) : Type 0 where
   pub free_lines : length (tape f) + weight f ≤ f.tape.limit
   pub free_stamps : f.session.next_stamp + weight f ≤ STAMPS_END

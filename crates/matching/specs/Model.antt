@@ -1,4 +1,4 @@
--- The match state, the events that can happen on it, and what each does to it.
+-- The match state, the events that change it, and what each makes of it.
 --   match state      the four queues, the incoming order, the tape and the session
 --   incoming         the order that trades; it is in no queue meanwhile (rules 1)
 --   resting          the first opposite order, which the incoming order meets (rules 10)
@@ -53,7 +53,7 @@ unmatched_lines number quantity tape =
     line_added (Cancelled number None quantity NoOpposite)
     (line_added (Accepted number None quantity) tape)
 
--- what can happen
+-- the events
 
 pub data Event : Type 0 where
   -- an order is accepted and becomes the incoming one (rules 8)

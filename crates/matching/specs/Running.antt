@@ -100,7 +100,7 @@ run_events zero state = state
 run_events (suc most) state =
     go_on_with (next_event state) (λ event. run_events most (apply event state)) state
 
--- the weight of a match state: a bound on the events that can still happen, which each event lowers
+-- the weight of a match state: a bound on the events that can still follow, which each event lowers
 
 abbrev pub total : {X : Type 0} → (X → ℕ) → List X → ℕ
 total f [] = 0

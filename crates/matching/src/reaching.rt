@@ -83,7 +83,8 @@ fn counted_open_lots<B: Book>(book: &B, order: Order, price: Option<Price>) -> u
 // The shown lots at a price ahead of the first opposite order of the same investor.
 fn shown_ahead<B: Book>(book: &B, order: Order, price: Price) -> u64
     ensures small { result ≤ most_open_lots }
-    ensures answer { result ≡ shown_ahead order price (opposite_orders order (B.queues book.now)) }
+    ensures answer { result
+        ≡ shown_ahead order price (opposite_orders order (B.queues book.now)) }
 {
     opposite_orders(book, order)
         .take_while(|r| !is_own(order, *r))

@@ -64,7 +64,8 @@ fn change_answer<B: Book>(
     session: Session,
     form: ChangeForm,
 ) -> Result<AmendPlan, Refusal>
-    ensures { result ≡ change_answer form (match_state (B.queues book.now) tape.now session None) }
+    ensures { result
+        ≡ change_answer form (match_state (B.queues book.now) tape.now session None) }
 {
     let request = validate_change(form)?;
     lines_free(book, tape)?;

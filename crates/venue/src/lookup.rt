@@ -38,7 +38,8 @@ impl ClientNumberClaim {
 
     // Whether another record of a queue has the client number. The book may know that none has.
     fn is_claimed_in<B: Book>(self, book: &B, queue: Queue) -> bool
-        ensures { result ≡ claimed_in self.firm self.client self.except queue (B.queues book.now) }
+        ensures { result
+            ≡ claimed_in self.firm self.client self.except queue (B.queues book.now) }
     {
         book.may_have_client(queue, self.firm, self.client)
             && orders_in(book, queue).any(|order| self.is_claimed_by(order))
