@@ -104,10 +104,37 @@ def comment_words(comment, maps):
                    for p in parts)
 
 
+def mended(text, regexes, path):
+    """A text after the patterns of its file and those of all files."""
+    for pattern, new in regexes.get(path, []) + regexes.get('*', []):
+        text = re.sub(pattern, new, text)
+    return text
+
+
+def with_words(text, maps, own_dotted, by_word):
+    """A text with each name renamed; by_word: names made of words too, as those of lemmas."""
+    out, at = [], 0
+    # (a module's definition is never named through a dot, but in a path)
+    dotted_maps = [maps[0], own_dotted, {}, maps[3], maps[4]]
+    for m in TOKEN.finditer(text):
+        out.append(text[at:m.start()])
+        at = m.end()
+        tok = m.group(0)
+        if m.lastgroup == 'comment':
+            tok = comment_words(tok, maps)
+        elif m.lastgroup == 'name':
+            dotted = m.start() > 0 and text[m.start() - 1] == '.'
+            new = lookup(dotted_maps if dotted else maps, tok, dotted)
+            if new is None and (by_word or tok.startswith('in_')):
+                new = by_parts(tok)
+            tok = new if new is not None else tok
+        out.append(tok)
+    return ''.join(out) + text[at:]
+
+
 def rename_code(text, path):
     crate = crate_of(path)
-    for pattern, new in R.REGEXES_BEFORE.get(path, []) + R.REGEXES_BEFORE.get('*', []):
-        text = re.sub(pattern, new, text)
+    text = mended(text, R.REGEXES_BEFORE, path)
     if path.endswith('Answers.antt'):
         text = re.sub(r'(?m)(^\s*|[{;]\s*)(%s) =' % '|'.join(R.LABELS), lambda m: '%s%s =' % (m.group(1), R.LABELS[m.group(2)]), text)
     for folder, files in (('specs', R.SPEC_FILES), ('proofs', R.PROOF_FILES)):
@@ -120,28 +147,8 @@ def rename_code(text, path):
     text = rename_paths(text, crate)
     proofs = '/proofs/' in path
     maps = [R.FILES.get(path, {}), own, brought, R.IN_CRATE.get(crate, {}), R.EVERYWHERE]
-    out, at = [], 0
-    for m in TOKEN.finditer(text):
-        out.append(text[at:m.start()])
-        at = m.end()
-        kind, tok = m.lastgroup, m.group(0)
-        if kind == 'comment':
-            tok = comment_words(tok, maps)
-        elif kind == 'name':
-            dotted = m.start() > 0 and text[m.start() - 1] == '.'
-            # (a module's definition is never named through a dot, but in a path)
-            use = maps if not dotted else [maps[0], {k: v for k, v in own.items() if k[0] == '.'}, {}, maps[3], maps[4]]
-            new = lookup(use, tok, dotted)
-            if new is None and (proofs or tok.startswith('in_')):
-                new = by_parts(tok)
-            if new is not None:
-                tok = new
-        out.append(tok)
-    out.append(text[at:])
-    text = ''.join(out)
-    for pattern, new in R.REGEXES_AFTER.get(path, []) + R.REGEXES_AFTER.get('*', []):
-        text = re.sub(pattern, new, text)
-    return text
+    text = with_words(text, maps, {k: v for k, v in own.items() if k[0] == '.'}, proofs)
+    return mended(text, R.REGEXES_AFTER, path)
 
 
 def new_path(path):
@@ -225,23 +232,8 @@ def rename_code_line(line, source):
     crate = crate_of(source)
     brought = imported(SOURCES[source], R.MODULES)
     maps = [R.FILES.get(source, {}), {}, brought, R.IN_CRATE.get(crate, {}), R.EVERYWHERE]
-    for pattern, new in R.REGEXES_BEFORE.get(source, []) + R.REGEXES_BEFORE.get('*', []):
-        line = re.sub(pattern, new, line)
-    out, at = [], 0
-    for m in TOKEN.finditer(line):
-        out.append(line[at:m.start()])
-        at = m.end()
-        tok = m.group(0)
-        if m.lastgroup == 'name':
-            dotted = m.start() > 0 and line[m.start() - 1] == '.'
-            use = maps if not dotted else [maps[0], {}, {}, maps[3], maps[4]]
-            tok = lookup(use, tok, dotted) or tok
-        out.append(tok)
-    out.append(line[at:])
-    line = ''.join(out)
-    for pattern, new in R.REGEXES_AFTER.get(source, []) + R.REGEXES_AFTER.get('*', []):
-        line = re.sub(pattern, new, line)
-    return line
+    line = with_words(mended(line, R.REGEXES_BEFORE, source), maps, {}, False)
+    return mended(line, R.REGEXES_AFTER, source)
 
 
 if __name__ == '__main__':
