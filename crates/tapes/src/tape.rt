@@ -1,5 +1,5 @@
 // The tape: the list of lines that the steps write (rules 16).
-ghost use Rattle.std.specs.Prelude.{◌≡◌, ◌≤◌, vec_len, vec_capacity, vec_items, reverse, IfOk};
+ghost use Rattle.std.specs.Prelude.{◌≡◌, ◌≤◌, ◌+◌, length, vec_len, vec_capacity, vec_items, reverse, IfOk};
 ghost use Rattle.tapes.specs.Logs.{line_added, free_lines, empty_log};
 
 use crate::line::Line;
@@ -35,9 +35,11 @@ impl Tape {
         Ok(Tape { lines, limit })
     }
 
-    /// How many more lines it takes (rules 7).
+    /// How many more lines it takes (rules 7). With those that it has they make up its limit, which
+    /// they never pass.
     pub fn free_lines(&self) -> usize
-        ensures { result ≡ free_lines self.now }
+        ensures answer { result ≡ free_lines self.now }
+        ensures within { length self.now.lines + result ≡ self.now.limit }
     {
         self.limit - self.lines.len()
     }
