@@ -2,6 +2,9 @@
 use crate::case::Case;
 use crate::case_run::run_case;
 
+// The word for a line that is not there; a line that is expected and has this word agrees with it.
+const ABSENT: &str = "nothing";
+
 /// How many cases were run, and how many of them differ.
 #[derive(Default, Drop)]
 pub struct Counts {
@@ -20,8 +23,8 @@ pub fn report(rt: &HostRuntime, case: &Case, counts: &mut Counts) -> anyhow::Res
     counts.cases = counts.cases.saturating_add(1);
     match first_difference(case, got.as_slice()) {
         Some(i) => {
-            let want = expected_at(case, i).unwrap_or("nothing");
-            let have = got_at(got.as_slice(), i).unwrap_or("nothing");
+            let want = expected_at(case, i).unwrap_or(ABSENT);
+            let have = got_at(got.as_slice(), i).unwrap_or(ABSENT);
             counts.differ = counts.differ.saturating_add(1);
             println!(rt; "{name}: expected {want}, got {have}")?;
         }
@@ -30,10 +33,11 @@ pub fn report(rt: &HostRuntime, case: &Case, counts: &mut Counts) -> anyhow::Res
     Ok(())
 }
 
-// The first line, from 0, where what was expected and what was given differ, or that only one of
-// them has.
+// The first line, from 0, where what was expected and what was given differ.
 fn first_difference(case: &Case, got: &[String]) -> Option<usize> {
-    (0..case.expected.len().max(got.len())).find(|i| expected_at(case, *i) != got_at(got, *i))
+    (0..case.expected.len().max(got.len())).find(|i| {
+        expected_at(case, *i).unwrap_or(ABSENT) != got_at(got, *i).unwrap_or(ABSENT)
+    })
 }
 
 // The line that is expected at a position.

@@ -1,16 +1,17 @@
 // The lines of the table.
 use crate::outcome::Outcome;
-use anyhow::{Context, bail};
+use anyhow::Context;
 use sheets::reply::Reply;
 use std::alloc::Global;
 
 /// A line of the table: a name, the bytes of the sheet, and the answers that are expected: its
-/// replies, and the values in the cells of its accepted rows. Bars stand between.
+/// replies, and the values in the cells of its accepted rows. Bars stand between. Nothing is
+/// expected where the line names what no sheet is answered with.
 #[derive(Drop)]
 pub struct Case<'a> {
     pub name: &'a str,
     pub sheet: Vec<u8>,
-    pub expected: Outcome,
+    pub expected: Option<Outcome>,
 }
 
 impl<'a> Case<'a> {
@@ -32,20 +33,21 @@ fn column<'a>(line: &'a str) -> anyhow::Result<(&'a str, &'a str)> {
     line.split_once('|').context("a column is missing")
 }
 
-// The expected answers. Where the sheet is refused, the column of replies begins with `sheet` and
-// has the one answer.
-fn read_outcome(heap: Global, replies: &str, values: &str) -> anyhow::Result<Outcome> {
+// The expected answers. Where the sheet is refused, the column of replies has the word `sheet`; a
+// refused sheet has one answer and no values, so that none is answered with others.
+fn read_outcome(heap: Global, replies: &str, values: &str) -> anyhow::Result<Option<Outcome>> {
     let listed = read_replies(heap, replies)?;
-    if replies.contains("sheet") {
-        let [reply] = listed.as_slice() else {
-            bail!("a refused sheet has one answer");
-        };
-        return Ok(Outcome::Refused(*reply));
+    let values = read_values(heap, values)?;
+    if !replies.contains("sheet") {
+        return Ok(Some(Outcome::Worked {
+            replies: listed,
+            values,
+        }));
     }
-    Ok(Outcome::Worked {
-        replies: listed,
-        values: read_values(heap, values)?,
-    })
+    match (listed.as_slice(), values.as_slice()) {
+        ([reply], []) => Ok(Some(Outcome::Refused(*reply))),
+        _ => Ok(None),
+    }
 }
 
 // Bytes, written as words: `7` is a byte, `w7` two bytes, `'text` the bytes of a text, and `9*w7,0`
