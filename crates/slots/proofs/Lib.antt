@@ -1,3 +1,4 @@
 pub mod SlotRows
 pub mod PutAtGap
 pub mod SlotCalls
+pub mod SlotsByLoop

@@ -12,7 +12,14 @@ use orders::ranked::Ranked;
 pub fn count_in<T: Copy>(slots: &[Option<T>]) -> usize
     ensures { result ≡ length (slot_rows slots.now) }
 {
-    slots.iter().filter_map(|slot| *slot).count()
+    // By a loop: a chain that counts takes twice the instructions.
+    let mut count = 0;
+    for slot in slots {
+        if slot.is_some() {
+            count += 1;
+        }
+    }
+    count
 }
 
 // The slot of the row at a position.
@@ -37,10 +44,17 @@ pub fn look_in<T: Copy>(slots: &[Option<T>], index: usize) -> Option<T>
 pub fn find_in<T: Ranked + Copy>(slots: &[Option<T>], number: u32) -> Option<usize>
     ensures { result ≡ index_of_number T.Numbered.number number (slot_rows slots.now) }
 {
-    slots
-        .iter()
-        .filter_map(|slot| *slot)
-        .position(|row| row.number() == number)
+    // By a loop, as the count.
+    let mut index = 0;
+    for slot in slots {
+        if let Some(row) = *slot {
+            if row.number() == number {
+                return Some(index);
+            }
+            index += 1;
+        }
+    }
+    None
 }
 
 // Whether a row has a firm's client number.
