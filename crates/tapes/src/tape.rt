@@ -60,9 +60,10 @@ impl Tape {
         self.lines.clear();
     }
 
-    /// The lines, the oldest first.
+    /// The lines, the oldest first; never more than the limit.
     pub fn all(&self) -> &[Line]
-        ensures { self.now.lines ≡ reverse result.now }
+        ensures answer { self.now.lines ≡ reverse result.now }
+        ensures within { length self.now.lines ≤ self.now.limit }
     {
         self.lines.as_slice()
     }
