@@ -1,8 +1,8 @@
 -- What becomes of the rows when slots are read and written.
-use Rattle.std.proofs.Common.{◌≡◌, ℕ, zero, suc, ◌+◌, ◌-◌, ◌<◌, ◌≤◌, Bool, true, false, cond, not, List, [], ◌∷◌, ◌++◌, length, get_or, take, drop, set, reverse, is_some, is_none, Some, None, Option, sym, refl, ap, ◌∙◌, arith}
+use Rattle.std.proofs.Common.{◌≡◌, ℕ, zero, suc, ◌+◌, ◌-◌, ◌<◌, ◌≤◌, Bool, true, false, cond, not, nat_lt, List, [], ◌∷◌, ◌++◌, length, get_or, take, drop, set, reverse, is_some, is_none, Some, None, Option, sym, refl, ap, ◌∙◌, arith}
 use Rattle.std.specs.List.{prefix_len, position, position_from, enumerate_from, filter_map, remove, slice_get}
 use Rattle.std.specs.Option.{option_map}
-use Rattle.std.proofs.lemmas.Bool.{false≢true}
+use Rattle.std.proofs.lemmas.Bool.{false≢true, lt-ltb, le-ltb, ltb-true, ltb-false}
 use Rattle.std.proofs.lemmas.Grind.{reverse_onto}
 use Rattle.std.proofs.lemmas.Iterator.Adapters.{position_from-zero}
 use Rattle.std.proofs.lemmas.List.{take_all, take-take, length-take-le, reverse-reverse, take-append-drop, take-append-le, length-append, length-reverse}
@@ -105,16 +105,36 @@ rows_freed (Some x ∷ ss) (suc i) l t = ap (λ (l : List _). x ∷ l) (rows_fre
 take_one : {A : Type 0} (n : ℕ) (x : A) (xs : List A) → take (1 + n) (x ∷ xs) ≡ x ∷ take n xs
 take_one n x xs = let e : 1 + n ≡ suc n = omega arith in ap (λ k. take k (x ∷ xs)) e
 
--- where the rows end that a rank is not ahead of
-rows_end : {X : Type 0} (f : X → Rank) (k : Rank) (ss : List (Option X)) → length (slot_rows (take (prefix_len (not_behind f k) ss) ss)) ≡ rank_index f k (slot_rows ss)
-rows_end f k [] = refl
-rows_end f k (None ∷ ss) = ap (λ l. length (slot_rows l)) (take_one (prefix_len (not_behind f k) ss) None ss) ∙ rows_end f k ss
-rows_end f k (Some x ∷ ss) = one (not (ranks_ahead k (f x))) (rows_end f k ss)
+lt_one : (n m : ℕ) → nat_lt (1 + n) (suc m) ≡ nat_lt n m
+lt_one n m = one (nat_lt n m) refl
   where
-    one : (b : Bool) → length (slot_rows (take (prefix_len (not_behind f k) ss) ss)) ≡ rank_index f k (slot_rows ss) →
-        length (slot_rows (take (cond b (1 + prefix_len (not_behind f k) ss) 0) (Some x ∷ ss))) ≡ cond b (1 + rank_index f k (slot_rows ss)) 0
-    one true e = ap (λ l. length (slot_rows l)) (take_one (prefix_len (not_behind f k) ss) (Some x) ss) ∙ omega (arith, e)
+    one : (b : Bool) → nat_lt n m ≡ b → nat_lt (1 + n) (suc m) ≡ b
+    one true e = lt-ltb (1 + n) (suc m) (omega (arith, ltb-true n m e))
+    one false e = le-ltb (1 + n) (suc m) (omega (arith, ltb-false n m e))
+
+-- a test p of slots that free ones pass, and q of their rows: as many rows come before the first slot that fails as before the first row that fails
+pub rows_before_failing : {X : Type 0} (p : Option X → Bool) (q : X → Bool) → p None ≡ true → ((x : X) → p (Some x) ≡ q x) → (ss : List (Option X)) →
+    length (slot_rows (take (prefix_len p ss) ss)) ≡ prefix_len q (slot_rows ss)
+rows_before_failing p q free row [] = refl
+rows_before_failing p q free row (None ∷ ss) = rw free (ap (λ l. length (slot_rows l)) (take_one (prefix_len p ss) None ss) ∙ rows_before_failing p q free row ss)
+rows_before_failing p q free row (Some x ∷ ss) = rw (row x) (one (q x) (rows_before_failing p q free row ss))
+  where
+    one : (b : Bool) → length (slot_rows (take (prefix_len p ss) ss)) ≡ prefix_len q (slot_rows ss) →
+        length (slot_rows (take (cond b (1 + prefix_len p ss) 0) (Some x ∷ ss))) ≡ cond b (1 + prefix_len q (slot_rows ss)) 0
+    one true e = ap (λ l. length (slot_rows l)) (take_one (prefix_len p ss) (Some x) ss) ∙ omega (arith, e)
     one false e = refl
+
+-- and some slot fails exactly where some row does
+pub some_slot_fails : {X : Type 0} (p : Option X → Bool) (q : X → Bool) → p None ≡ true → ((x : X) → p (Some x) ≡ q x) → (ss : List (Option X)) →
+    nat_lt (prefix_len p ss) (length ss) ≡ nat_lt (prefix_len q (slot_rows ss)) (length (slot_rows ss))
+some_slot_fails p q free row [] = refl
+some_slot_fails p q free row (None ∷ ss) = rw free (lt_one (prefix_len p ss) (length ss) ∙ some_slot_fails p q free row ss)
+some_slot_fails p q free row (Some x ∷ ss) = rw (row x) (one (q x) (some_slot_fails p q free row ss))
+  where
+    one : (b : Bool) → nat_lt (prefix_len p ss) (length ss) ≡ nat_lt (prefix_len q (slot_rows ss)) (length (slot_rows ss)) →
+        nat_lt (cond b (1 + prefix_len p ss) 0) (suc (length ss)) ≡ nat_lt (cond b (1 + prefix_len q (slot_rows ss)) 0) (suc (length (slot_rows ss)))
+    one true e = lt_one (prefix_len p ss) (length ss) ∙ e ∙ sym (lt_one (prefix_len q (slot_rows ss)) (length (slot_rows ss)))
+    one false e = lt-ltb 0 (suc (length ss)) (omega arith) ∙ sym (lt-ltb 0 (suc (length (slot_rows ss))) (omega arith))
 
 -- without free slots at the end there are as many rows; the list is reversed
 rows_before_free : {X : Type 0} (ss : List (Option X)) (k : ℕ) → k ≤ prefix_len is_none ss → length (slot_rows (take (length ss - k) (reverse ss))) ≡ length (slot_rows (reverse ss))
@@ -138,4 +158,4 @@ rows_to_middle f k ss to n e l h =
     ∙ ap (λ j. length (slot_rows (take (j - n) ts))) (sym m)
     ∙ ap (λ l. length (slot_rows (take (length (reverse ts) - n) l))) (sym (reverse-reverse ts))
     ∙ b ∙ ap (λ l. length (slot_rows l)) (reverse-reverse ts)
-    ∙ ap (λ j. length (slot_rows (take j ss))) e ∙ rows_end f k ss
+    ∙ ap (λ j. length (slot_rows (take j ss))) e ∙ rows_before_failing (not_behind f k) (λ x. not (ranks_ahead k (f x))) refl (λ x. refl) ss
